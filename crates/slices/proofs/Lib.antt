@@ -1,0 +1,4 @@
+pub mod Lawful
+pub mod Pushes
+pub mod Same
+pub mod Searches

@@ -1,0 +1,5 @@
+pub mod Answers
+pub mod First
+pub mod Held
+pub mod Limits
+pub mod Names
