@@ -1,0 +1,10 @@
+pub mod Fronts
+pub mod Digits
+pub mod Exact
+pub mod Framing
+pub mod Decoding
+pub mod Numbers
+pub mod Pairs
+pub mod Prefixes
+pub mod Texts
+pub mod Trims
