@@ -17,6 +17,17 @@ pub enum Error {
     BadHeader,
 }
 
+impl Error {
+    /// The refusal's number.
+    pub fn refusal_number(self) -> u8
+        ensures { λ r. ⌜ r ≡ decode-number self ⌝ }
+    {
+        match self {
+            Error::BadHeader => 20,
+        }
+    }
+}
+
 /// What stands first in a byte string that is no refusal.
 #[derive(Clone, Copy)]
 pub enum Stream<'a> {

@@ -16,6 +16,18 @@ pub enum Error {
     OutsideLimits,
 }
 
+impl Error {
+    /// The refusal's number.
+    pub fn refusal_number(self) -> u8
+        ensures { λ r. ⌜ r ≡ encode-number self ⌝ }
+    {
+        match self {
+            Error::AreaTooShort => 1,
+            Error::OutsideLimits => 2,
+        }
+    }
+}
+
 /// The packet of `payload` over the front of `area`, and its length.
 pub fn data_to_area(payload: &[u8], area: &mut [u8]) -> Result<usize, Error>
     ensures { λ r. ⌜ Framed (line (now (payload .entry))) (now (area .entry)) (told (λ n. n) encode-number r) (now (area .exit)) ⌝ }

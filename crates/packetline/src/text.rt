@@ -12,6 +12,17 @@ pub enum Error {
     NotUtf8,
 }
 
+impl Error {
+    /// The refusal's number.
+    pub fn refusal_number(self) -> u8
+        ensures { λ r. ⌜ r ≡ text-number self ⌝ }
+    {
+        match self {
+            Error::NotUtf8 => 22,
+        }
+    }
+}
+
 /// The text of a payload, without the white space at its end.
 pub fn text(payload: &[u8]) -> Result<&str, Error>
     ensures value { λ r. ⌜ told at text-number r ≡ text-of (now (payload .entry)) ⌝ }
