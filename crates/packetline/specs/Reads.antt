@@ -32,11 +32,11 @@ front-told (Ok (Complete p n)) bytes = whole (pkt p) (take n bytes) (drop n byte
 front-told (Ok Incomplete) bytes = short
 front-told (Err e) bytes = fronted (Err (decode-number e)) bytes
 
--- a packet that is whole lies within the bytes
+-- a packet that is whole lies within the bytes, and so do four bytes that are no header
 abbrev pub Within : Result Stream Error → List ℕ → Type 0
 Within (Ok (Complete p n)) bytes = (4 ≤ n) × (n ≤ length bytes)
 Within (Ok Incomplete) bytes = Unit {0}
-Within (Err e) bytes = Unit {0}
+Within (Err e) bytes = 4 ≤ length bytes
 
 -- one packet of an iteration: the packet at the front and what follows it, or none where no whole packet stands there
 abbrev pub Next : List ℕ → Option PacketLineRef → List ℕ → Type 0

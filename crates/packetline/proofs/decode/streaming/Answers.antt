@@ -1,9 +1,9 @@
-use mathlib.Core.Path.{_≡_, refl, sym, ap, _∙_}
+use mathlib.Core.Path.{_≡_, refl, sym, ap, subst, _∙_}
 use borrow.Author.Needs.{needs}
 use native.Mathlib.Omega.{arith}
 use Rattle.std.proofs.shelf.Results.{err-from-errBy}
 use Rattle.std.proofs.shelf.Lists.{take-rest}
-use Rattle.packetline.specs.Reads.{front-told}
+use Rattle.packetline.specs.Reads.{front-told, Within}
 use Rattle.packetline.proofs.Fronts.{front-none, front-bad, front-cut, front-whole}
 use Rattle.packetline.proofs.Exact.{reads-sent}
 use Rattle.packetline.proofs.decode.streaming.Needs as need
@@ -16,7 +16,7 @@ returns-in-Break-packet c =
     let e = err-from-errBy (c .from-residual .result) (c .from-residual .ensures .1) in
     record {
       value = ap (λ r. front-told r (c .args .bytes .now)) (e .1) ∙ sym (front-bad (c .args .bytes .now) _ (omega arith) (sym (c .in-Break-packet .ensures tt .value)));
-      within = search needs;
+      within = subst (λ r. Within r (c .args .bytes .now)) (sym (e .1)) (omega arith);
       exactly = reads-sent (c .args .bytes .now);
     }
 
