@@ -134,14 +134,14 @@ impl Flow {
 
 /// Both directions of an exchange.
 #[derive(Drop)]
-pub struct Listing {
+pub(crate) struct Listing {
     sent: Flow,
     given: Flow,
     last: usize,
 }
 
 impl Listing {
-    pub fn new(heap: Global) -> Listing {
+    pub(crate) fn new(heap: Global) -> Listing {
         Listing {
             sent: Flow::new(heap),
             given: Flow::new(heap),
@@ -150,7 +150,7 @@ impl Listing {
     }
 
     /// Adds a record, and prints the packets that it completes.
-    pub fn add(
+    pub(crate) fn add(
         &mut self,
         rt: &LibcRuntime,
         direction: Direction,
@@ -170,7 +170,7 @@ impl Listing {
     }
 
     /// The flushes each way, and what is left over.
-    pub fn print_summary(&self, rt: &LibcRuntime) -> Result<(), AnyError> {
+    pub(crate) fn print_summary(&self, rt: &LibcRuntime) -> Result<(), AnyError> {
         let sent = decode::count(self.sent.bytes.as_slice()).flushes;
         let given = decode::count(self.given.bytes.as_slice()).flushes;
         println!(rt, "flushes: {sent} sent, {given} given")?;

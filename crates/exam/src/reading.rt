@@ -38,7 +38,11 @@ fn read_line(
 }
 
 /// Reads each line of `text` in order, to the first bad one.
-pub fn read_lines(rt: &LibcRuntime, text: &[u8], listing: &mut Listing) -> Result<(), AnyError> {
+pub(crate) fn read_lines(
+    rt: &LibcRuntime,
+    text: &[u8],
+    listing: &mut Listing,
+) -> Result<(), AnyError> {
     let mut number = 1usize;
     let mut from = 0;
     for (i, b) in text.iter().enumerate() {
