@@ -6,22 +6,13 @@ use Prim.Native.Nat.{ℕ, suc, _+_, _*_, _/_, _%_, _<_}
 use lib.Dec.{leb, eqb}
 use lib.ListN.{length, getD, take, drop}
 use native.Mathlib.Omega.{arith}
-use Rattle.std.specs.Options.{valueOr}
 use Rattle.std.proofs.shelf.Lists.{append-assoc, append-nil, take-more}
 use Rattle.std.proofs.shelf.Tests.{eqb-true, eqb-false, ne-eqb, cond-false}
-use Rattle.packetline.specs.Packets.{hex-char, digit}
-use Rattle.packetline.proofs.Digits.{digit-char}
-use Rattle.recording.specs.Shown.{shown, escaped, Unambiguous}
+use Rattle.std.proofs.shelf.Ways.{tells}
+use Rattle.packetline.specs.Packets.{hex-char}
+use Rattle.recording.specs.Shown.{shown, escaped, All-bytes, Unambiguous, digit-value, lead}
 
--- the byte that stands first in a text, and what stands behind it
-abbrev value : ℕ → ℕ
-value c = valueOr (digit c) 0
-
-abbrev lead : List ℕ → ℕ
-lead [] = 0
-lead (c ∷ cs) =
-    cond (eqb c 92) (cond (eqb (getD cs 0 0) 110) 10 (cond (eqb (getD cs 0 0) 120) (value (getD cs 1 0) * 16 + value (getD cs 2 0)) (getD cs 0 0))) c
-
+-- what stands behind the byte that a text shows first
 abbrev behind : List ℕ → List ℕ
 behind [] = []
 behind (c ∷ cs) = cond (eqb c 92) (cond (eqb (getD cs 0 0) 120) (drop 3 cs) (drop 1 cs)) cs
@@ -29,11 +20,14 @@ behind (c ∷ cs) = cond (eqb c 92) (cond (eqb (getD cs 0 0) 120) (drop 3 cs) (d
 abbrev Reads : ℕ → List ℕ → Type 0
 Reads b text = (x : List ℕ) → (lead (text ++ x) ≡ b) × (behind (text ++ x) ≡ x)
 
+value-char : (d : ℕ) → d < 16 → digit-value (hex-char d) ≡ d
+value-char d h = grind (arith, tells)
+
 plain : (b : ℕ) (t : Bool) → b < 256 → (b ≡ 92 → ⊥) → Reads b (cond t (b ∷ []) (92 ∷ 120 ∷ hex-char (b / 16) ∷ hex-char (b % 16) ∷ []))
 plain b true h n x = (cond-false (eqb b 92) _ b (ne-eqb b 92 n), cond-false (eqb b 92) _ x (ne-eqb b 92 n))
 plain b false h n x =
-    let high = ap (λ o. valueOr o 0) (digit-char (b / 16) (omega arith)) in
-    let low = ap (λ o. valueOr o 0) (digit-char (b % 16) (omega arith)) in
+    let high = value-char (b / 16) (omega arith) in
+    let low = value-char (b % 16) (omega arith) in
     let sum : b / 16 * 16 + b % 16 ≡ b = omega arith in
     (rw (high, low) sum, refl)
 
@@ -82,3 +76,26 @@ escaped-append (x ∷ xs) ys = ap (λ t. shown x ++ t) (escaped-append xs ys) �
 pub escaped-more : (xs : List ℕ) (i : ℕ) → i < length xs → escaped (take (i + 1) xs) ≡ escaped (take i xs) ++ shown (getD xs i 0)
 escaped-more xs i h =
     ap escaped (take-more xs i 0 h) ∙ escaped-append (take i xs) (getD xs i 0 ∷ []) ∙ ap (λ t. escaped (take i xs) ++ t) (append-nil (shown (getD xs i 0)))
+
+-- what is left of a text shows no byte first, so the text shows no bytes
+pub stuck : (xs bs rest : List ℕ) → All-bytes xs → All-bytes bs → 0 < length rest → ((b : ℕ) (x : List ℕ) → b < 256 → rest ≡ shown b ++ x → ⊥)
+    → escaped xs ++ rest ≡ escaped bs → ⊥
+stuck [] [] rest h k l n e = let z = ap length e in omega arith
+stuck [] (b ∷ bs) rest h k l n e = n b (escaped bs) (k 0) e
+stuck (a ∷ xs) [] rest h k l n e = some a (escaped xs ++ rest) (h 0) (sym e ∙ append-assoc (shown a) (escaped xs) rest)
+stuck (a ∷ xs) (b ∷ bs) rest h k l n e =
+    let p = reads a (h 0) (escaped xs ++ rest) in
+    let q = reads b (k 0) (escaped bs) in
+    let f = sym (append-assoc (shown a) (escaped xs) rest) ∙ e in
+    stuck xs bs rest (λ i. h (suc i)) (λ i. k (suc i)) l n (sym (p .1) ∙ ap behind f ∙ q .1)
+
+-- only the byte that a text can show first is shown first
+pub lead-is : (text x : List ℕ) (b : ℕ) → b < 256 → text ≡ shown b ++ x → lead text ≡ b
+lead-is text x b h e = ap lead e ∙ reads b h x .0
+
+-- one byte more is read back
+pub read-more : (text xs rest x : List ℕ) (b : ℕ) → text ≡ escaped xs ++ rest → rest ≡ shown b ++ x → text ≡ escaped (xs ++ b ∷ []) ++ x
+read-more text xs rest x b e f =
+    let one = escaped-append xs (b ∷ []) ∙ ap (λ t. escaped xs ++ t) (append-nil (shown b)) in
+    let all = append-assoc (escaped xs) (shown b) x in
+    cc

@@ -48,7 +48,7 @@ pub impl<T: Drop> From<Refused<T>> for Error as ErrorFromRefused {
 }
 
 /// The value of a hexadecimal digit in lower case.
-fn hex_value(b: u8) -> Option<u8>
+pub(crate) fn hex_value(b: u8) -> Option<u8>
     ensures { λ r. ⌜ Digit-read b r ⌝ }
 {
     match b {
@@ -66,7 +66,7 @@ fn hex_byte(high: u8, low: u8) -> Option<u8>
 }
 
 /// The bytes that digits write, two digits a byte.
-fn hex_bytes(heap: Global, digits: &[u8]) -> Result<Vec<u8>, Error>
+pub fn hex_bytes(heap: Global, digits: &[u8]) -> Result<Vec<u8>, Error>
     ensures { λ r. ⌜ Bytes-read (now (digits .entry)) r ⌝ }
 {
     if digits.len() % 2 != 0 {
