@@ -1,0 +1,9 @@
+pub mod Takes
+pub mod Logging
+pub mod Fills
+pub mod Talking
+pub mod Hearing
+pub mod Streams
+pub mod Sends
+pub mod Parts
+pub mod Wants
