@@ -7,6 +7,7 @@ use packetline::decode::streaming;
 use packetline::packet::PacketLineRef;
 use recording::line::Direction;
 use recording::show::escape;
+use std::alloc::AllocError;
 use std::alloc::Global;
 use std::error::AnyError;
 
@@ -22,6 +23,25 @@ struct Flow {
     ghost within: { read ≤ vec-len bytes },
 }
 
+/// A packet's kind, and its payload as far as it is shown.
+pub(crate) fn describe(heap: Global, line: PacketLineRef<'_>) -> Result<String, AllocError> {
+    match line {
+        PacketLineRef::Flush => String::from_str(heap, "flush"),
+        PacketLineRef::Delimiter => String::from_str(heap, "delimiter"),
+        PacketLineRef::ResponseEnd => String::from_str(heap, "response end"),
+        PacketLineRef::Data(payload) => {
+            let n = payload.len().min(SHOWN);
+            let text = escape(heap, &payload[0..n])?;
+            let more = payload.len() - n;
+            if more > 0 {
+                format!(heap, "data \"{text}\" and {more} bytes more")
+            } else {
+                format!(heap, "data \"{text}\"")
+            }
+        }
+    }
+}
+
 /// One packet as a numbered line.
 fn print_packet(
     rt: &LibcRuntime,
@@ -31,24 +51,8 @@ fn print_packet(
     line: PacketLineRef<'_>,
 ) -> Result<(), AnyError> {
     let header = escape(rt.alloc(), header)?;
-    match line {
-        PacketLineRef::Flush => println!(rt, "{number:>4} {sign} {header} flush")?,
-        PacketLineRef::Delimiter => println!(rt, "{number:>4} {sign} {header} delimiter")?,
-        PacketLineRef::ResponseEnd => println!(rt, "{number:>4} {sign} {header} response end")?,
-        PacketLineRef::Data(payload) => {
-            let n = payload.len().min(SHOWN);
-            let text = escape(rt.alloc(), &payload[0..n])?;
-            let more = payload.len() - n;
-            if more > 0 {
-                println!(
-                    rt,
-                    "{number:>4} {sign} {header} data \"{text}\" and {more} bytes more"
-                )?;
-            } else {
-                println!(rt, "{number:>4} {sign} {header} data \"{text}\"")?;
-            }
-        }
-    }
+    let text = describe(rt.alloc(), line)?;
+    println!(rt, "{number:>4} {sign} {header} {text}")?;
     Ok(())
 }
 

@@ -1,9 +1,14 @@
-//! Prints the packets of recorded exchanges: `exam [FILE..]`, where `-` is standard input, as is no file at all.
+//! `exam [FILE..]` prints the packets of recorded exchanges and plays sheets; `-`, or no file, is standard input.
+mod cast;
+mod lines;
 mod listing;
+mod playing;
 mod reading;
+mod sheet;
 
-use listing::Listing;
-use reading::read_lines;
+use lines::split_lines;
+use playing::play;
+use reading::list;
 use std::env;
 use std::error::AnyError;
 use std::fs;
@@ -16,17 +21,32 @@ fn standard_input(rt: &LibcRuntime) -> Result<Vec<u8>, AnyError> {
     Ok(bytes)
 }
 
-/// Prints one recording.
+/// Whether lines are those of a recording: the first that says anything begins with a direction's sign.
+fn is_recording(lines: &[&[u8]]) -> bool {
+    for line in lines {
+        match line.first() {
+            None | Some(b'#') => {}
+            Some(b) => return *b == b'>' || *b == b'<',
+        }
+    }
+    true
+}
+
+/// Prints a recording, or plays a sheet.
 fn show(rt: &LibcRuntime, name: &String) -> Result<(), AnyError> {
     let text = if name.as_str() == "-" {
         standard_input(rt)?
     } else {
         fs::read(rt, name.as_str())?
     };
-    println!(rt, "recording {name}")?;
-    let mut listing = Listing::new(rt.alloc());
-    read_lines(rt, &text, &mut listing)?;
-    listing.print_summary(rt)
+    let lines = split_lines(rt.alloc(), &text)?;
+    if is_recording(&lines) {
+        println!(rt, "recording {name}")?;
+        list(rt, &lines)
+    } else {
+        println!(rt, "sheet {name}")?;
+        play(rt, &lines)
+    }
 }
 
 fn run(rt: &LibcRuntime) -> Result<(), AnyError> {

@@ -1,4 +1,4 @@
-//! The lines of a recording, one after another.
+//! A recording, line by line.
 use crate::listing::Listing;
 use recording::line::Entry;
 use recording::line::Error;
@@ -16,41 +16,23 @@ fn reason(e: Error) -> &'static str {
     }
 }
 
-/// Reads one line and prints the packets that it completes; a bad one is told.
-fn read_line(
-    rt: &LibcRuntime,
-    number: usize,
-    line: &[u8],
-    listing: &mut Listing,
-) -> Result<(), AnyError> {
-    match parse(rt.alloc(), line) {
-        Ok(Entry::Nothing) => Ok(()),
-        Ok(Entry::Record(direction, bytes)) => listing.add(rt, direction, &bytes),
-        Err(e) => {
-            let why = reason(e);
-            println!(
-                rt,
-                "line {number} is bad: {why}; nothing from there on is read"
-            )?;
-            Err("a line of the recording is bad".into())
+/// Prints the packets that each line completes, and then what was counted. A bad line is told, and nothing from there on is read.
+pub(crate) fn list(rt: &LibcRuntime, lines: &[&[u8]]) -> Result<(), AnyError> {
+    let mut listing = Listing::new(rt.alloc());
+    for (i, line) in lines.iter().enumerate() {
+        match parse(rt.alloc(), line) {
+            Ok(Entry::Nothing) => {}
+            Ok(Entry::Record(direction, bytes)) => listing.add(rt, direction, &bytes)?,
+            Err(e) => {
+                let number = i.saturating_add(1);
+                let why = reason(e);
+                println!(
+                    rt,
+                    "line {number} is bad: {why}; nothing from there on is read"
+                )?;
+                return Err("a line of the recording is bad".into());
+            }
         }
     }
-}
-
-/// Reads each line of `text` in order, to the first bad one.
-pub(crate) fn read_lines(
-    rt: &LibcRuntime,
-    text: &[u8],
-    listing: &mut Listing,
-) -> Result<(), AnyError> {
-    let mut number = 1usize;
-    let mut from = 0;
-    for (i, b) in text.iter().enumerate() {
-        if *b == b'\n' {
-            read_line(rt, number, &text[from..i], listing)?;
-            number = number.saturating_add(1);
-            from = i + 1;
-        }
-    }
-    read_line(rt, number, &text[from..], listing)
+    listing.print_summary(rt)
 }
