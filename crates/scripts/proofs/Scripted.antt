@@ -4,7 +4,6 @@ use mathlib.Core.Bool.{Bool, true, false, cond, _&&_}
 use mathlib.Core.List.{List, [], _∷_, _++_, map}
 use mathlib.Core.Logic.{⊎-elim}
 use Prim.Native.Nat.{ℕ, zero, suc, _+_, _-_, _≤_, _<_, min}
-use lib.Dec.{leb}
 use lib.ListN.{length, getD, set, take, drop, replicate}
 use native.Mathlib.Omega.{arith}
 use borrow.Rule.Slice.PartMut.{postOf}
@@ -20,7 +19,7 @@ use Rattle.slices.specs.First.{first-from}
 use Rattle.host.specs.declared.fault.NotStarted.{NotStarted}
 use Rattle.scripts.specs.declared.script.Part.{Part}
 use Rattle.scripts.specs.declared.script.Row.{Row}
-use Rattle.host.specs.Worlds.{Process, gone, live, World, process, with-process}
+use Rattle.host.specs.Worlds.{gone, live, World, process, with-process}
 use Rattle.host.specs.Acts.{Started}
 use Rattle.scripts.specs.Scripts.{part, row-within, all, is-script, opening, row-of, place-of, first-of, pipe, played, script-world}
 

@@ -1,11 +1,11 @@
 -- What a script host means: each started process plays the bytes of its row.
 use mathlib.Core.Path.{_≡_}
 use mathlib.Core.Bool.{Bool, true, false, _&&_}
-use mathlib.Core.List.{List, [], _∷_, map}
-use Prim.Native.Nat.{ℕ, _+_}
+use mathlib.Core.List.{List, [], _∷_, _++_, map}
+use Prim.Native.Nat.{ℕ, _+_, _-_}
 use denote.Ref.{now}
 use lib.Dec.{leb}
-use lib.ListN.{length, getD, set, take, drop}
+use lib.ListN.{length, getD, set, take, drop, replicate}
 use Rattle.std.specs.Options.{isSome}
 use Rattle.std.specs.declared.option.Option.{Option}
 use Rattle.std.specs.declared.option.Option.the-variants.{Some, None}
@@ -79,10 +79,23 @@ world-of s = script-world (now (s .bytes)) (s .unused) (s .started) (s .count)
 abbrev pub opening : List ℕ → List Row → World
 opening bytes rows = record { procs = []; startable = λ command. isSome (first-from (row-of bytes command) 0 rows) }
 
--- What a start plays: the first unused row of the command, which is used then. A refusal uses no row.
+-- rows in places of their own, the first first
+abbrev pub places : List Row → List (Option Row)
+places rows = map Some rows ++ replicate (16 - length rows) None
+
+-- a new script will play these rows over these bytes
+abbrev pub Holds : List ℕ → List Row → Result Script OutsideLimits → Type 0
+Holds bytes rows (Ok s) = (now (s .bytes) ≡ bytes) × (s .unused ≡ places rows)
+Holds bytes rows (Err _) = Unit {0}
+
+-- the unused rows and the bytes stay
+abbrev pub Keeps : Script → Script → Type 0
+Keeps s s′ = (now (s′ .bytes) ≡ now (s .bytes)) × (s′ .unused ≡ s .unused)
+
+-- What a start plays: the first unused row of the command, and only that row is used then. A refusal uses none.
 abbrev pub Plays : Script → List ℕ → Result ℕ NotStarted → Script → Type 0
 Plays s command (Ok n) s′ =
     (i : ℕ) × (row : Row)
     × ((first-of (now (s .bytes)) command (s .unused) ≡ Some i) × (getD (s .unused) i None ≡ Some row)
-    × (process (world-of s′) n ≡ live (pipe (now (s .bytes)) row)) × (s′ .unused ≡ set (s .unused) i None))
-Plays s command (Err _) s′ = s′ .unused ≡ s .unused
+    × (process (world-of s′) n ≡ live (pipe (now (s .bytes)) row)) × (now (s′ .bytes) ≡ now (s .bytes)) × (s′ .unused ≡ set (s .unused) i None))
+Plays s command (Err _) s′ = Keeps s s′

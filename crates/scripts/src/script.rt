@@ -1,17 +1,17 @@
 //! A host that plays a script: each process plays a row, whose bytes are parts of one lent byte string.
 ghost use mathlib.Core.Path.{_≡_};
 ghost use mathlib.Core.Bool.{true, cond};
-ghost use mathlib.Core.List.{[], _∷_, _++_, map};
-ghost use Prim.Native.Nat.{_-_, _≤_, _<_};
+ghost use mathlib.Core.List.{[], _∷_};
+ghost use Prim.Native.Nat.{_≤_, _<_};
 ghost use denote.Ref.{now};
-ghost use lib.ListN.{length, replicate};
+ghost use lib.ListN.{length};
 ghost use Rattle.std.specs.Options.{isSome, Cases};
-ghost use Rattle.std.specs.declared.option.Option.the-variants.{Some, None};
+ghost use Rattle.std.specs.declared.option.Option.the-variants.{None};
 ghost use Rattle.std.specs.declared.result.Result.the-variants.{Ok, Err};
 ghost use Rattle.slices.specs.Answers.{told};
 ghost use Rattle.host.specs.Faults.{snag-fault};
-ghost use Rattle.host.specs.Acts.{Started, Grows, starting};
-ghost use Rattle.scripts.specs.Scripts.{script-number, part, within, row-within, all, is-script, place-of, first-of, played, world-of, opening, Plays};
+ghost use Rattle.host.specs.Acts.{Started, Received, Sent, Ended, Grows, starting, taking, sending, ending, came};
+ghost use Rattle.scripts.specs.Scripts.{script-number, part, within, row-within, all, is-script, place-of, first-of, played, world-of, opening, places, Holds, Keeps, Plays};
 ghost use Rattle.host.specs.Worlds.{process, with-process};
 use host::fault::Fault;
 use host::fault::NotStarted;
@@ -80,7 +80,7 @@ fn are_within(rows: &[Row], n: usize) -> bool
 /// The rows, each in a place of its own.
 fn placed(rows: &[Row]) -> [Option<Row>; 16]
     requires { ⌜ length (now rows) ≤ 16 ⌝ }
-    ensures { λ r. ⌜ r ≡ map Some (now (rows .entry)) ++ replicate (16 - length (now (rows .entry))) None ⌝ }
+    ensures { λ r. ⌜ r ≡ places (now (rows .entry)) ⌝ }
 {
     let mut places = [None; 16];
     for (i, row) in rows.iter().enumerate() {
@@ -134,7 +134,8 @@ fn refusal(snag: Snag) -> Fault
 impl<'a> Script<'a> {
     /// A script of these rows over `bytes`, with nothing started.
     pub fn new(bytes: &'a [u8], rows: &[Row]) -> Result<Script<'a>, OutsideLimits>
-        ensures { λ r. ⌜ told world-of script-number r ≡ cond (is-script (now (bytes .entry)) (now (rows .entry))) (Ok (opening (now (bytes .entry)) (now (rows .entry)))) (Err 2) ⌝ }
+        ensures value { λ r. ⌜ told world-of script-number r ≡ cond (is-script (now (bytes .entry)) (now (rows .entry))) (Ok (opening (now (bytes .entry)) (now (rows .entry)))) (Err 2) ⌝ }
+        ensures rows { λ r. ⌜ Holds (now (bytes .entry)) (now (rows .entry)) r ⌝ }
     {
         if rows.len() > 16 {
             return Err(OutsideLimits);
@@ -166,7 +167,8 @@ impl<'a> Script<'a> {
     /// Lets a process play this from now on, or nothing any more.
     fn play(&mut self, number: usize, place: Option<Row>)
         requires { ⌜ number < 16 ⌝ }
-        ensures { λ _. ⌜ world-of (now (self .exit)) ≡ with-process (world-of (now (self .entry))) number (played (now (now (self .entry) .bytes)) place) ⌝ }
+        ensures value { λ _. ⌜ world-of (now (self .exit)) ≡ with-process (world-of (now (self .entry))) number (played (now (now (self .entry) .bytes)) place) ⌝ }
+        ensures keeps { λ _. ⌜ Keeps (now (self .entry)) (now (self .exit)) ⌝ }
     {
         self.started[number] = place;
     }
@@ -196,7 +198,11 @@ pub impl Host for Script<'_> as ScriptHost {
         Ok(number)
     }
 
-    fn receive(&mut self, process: usize, area: &mut [u8]) -> Result<usize, Fault> {
+    fn receive(&mut self, process: usize, area: &mut [u8]) -> Result<usize, Fault>
+        ensures goes { λ r. ⌜ Received (world-of (now (self .entry))) process (now (area .entry)) r (world-of (now (self .exit))) (now (area .exit)) ⌝ }
+        ensures logs { λ r. ⌜ Grows None (taking process (came r (now (area .exit))) ∷ []) None ⌝ }
+        ensures keeps { λ _. ⌜ Keeps (now (self .entry)) (now (self .exit)) ⌝ }
+    {
         let room = area.len();
         if room == 0 {
             return Ok(0);
@@ -219,7 +225,11 @@ pub impl Host for Script<'_> as ScriptHost {
         Ok(n)
     }
 
-    fn send(&mut self, process: usize, bytes: &[u8]) -> Result<(), Fault> {
+    fn send(&mut self, process: usize, bytes: &[u8]) -> Result<(), Fault>
+        ensures goes { λ r. ⌜ Sent (world-of (now (self .entry))) process (now (bytes .entry)) r (world-of (now (self .exit))) ⌝ }
+        ensures logs { λ r. ⌜ Grows None (sending process (now (bytes .entry)) r ∷ []) None ⌝ }
+        ensures keeps { λ _. ⌜ Keeps (now (self .entry)) (now (self .exit)) ⌝ }
+    {
         let Some(row) = self.playing(process) else {
             return Err(Fault::Broken);
         };
@@ -232,7 +242,11 @@ pub impl Host for Script<'_> as ScriptHost {
         Ok(())
     }
 
-    fn end(&mut self, process: usize, _how: How) {
+    fn end(&mut self, process: usize, _how: How)
+        ensures goes { λ _. ⌜ Ended (world-of (now (self .entry))) process (world-of (now (self .exit))) ⌝ }
+        ensures logs { λ _. ⌜ Grows None (ending process «_how» ∷ []) None ⌝ }
+        ensures keeps { λ _. ⌜ Keeps (now (self .entry)) (now (self .exit)) ⌝ }
+    {
         if let Some(_) = self.playing(process) {
             self.play(process, None);
         }

@@ -1,4 +1,3 @@
-use native.Mathlib.Omega.{arith}
 use Rattle.scripts.proofs.Scripted.{placed-turn, placed-end}
 use Rattle.scripts.proofs.script.placed.Needs as need
 

@@ -1,4 +1,4 @@
-use mathlib.Core.Path.{ap, sym, _∙_}
+use mathlib.Core.Path.{refl, ap, sym, _∙_}
 use mathlib.Core.List.{[], _++_}
 use lib.ListN.{length, take, drop}
 use native.Mathlib.Omega.{arith}
@@ -10,7 +10,7 @@ use Rattle.scripts.proofs.Scripted.{part-bounds, part-rest, copied}
 use Rattle.scripts.proofs.script.ScriptHost.receive.Needs as need
 
 pub returns-then-room-eq0 : need.returns-then-room-eq0
-returns-then-room-eq0 c = record { goes = received-none (world-of (c .args .self .now)) (c .args .process) (c .args .area .now) (omega arith); logs = λ l e. absurd (no-log l e) }
+returns-then-room-eq0 c = record { goes = received-none (world-of (c .args .self .now)) (c .args .process) (c .args .area .now) (omega arith); logs = λ l e. absurd (no-log l e); keeps = (refl, refl) }
 
 pub returns-then-n-eq0 : need.returns-then-n-eq0
 returns-then-n-eq0 c =
@@ -19,6 +19,7 @@ returns-then-n-eq0 c =
           received-end (world-of (c .args .self .now)) (c .args .process) (pipe (c .args .self .now .bytes .now) (c .in-Some .row)) (c .in-Some .ensures tt .meaning)
           (c .args .area .now) (omega arith) (sym (c .bytes-of-waiting .ensures) ∙ nil-from-length (c .bytes-of-waiting .result .now) (omega arith));
       logs = λ l e. absurd (no-log l e);
+      keeps = (refl, refl);
     }
 
 pub add-plays : need.add-plays
@@ -44,9 +45,10 @@ returns c =
       goes =
           received-some w (c .args .process) (pipe bytes row) (c .in-Some .ensures tt .meaning) (c .args .area .now) _ n _
           (omega arith) (omega arith) (omega (arith, ap length is))
-          (c .play .ensures
+          (c .play .ensures .value
           ∙ ap (λ ws. with-process w (c .args .process) (live (record { waiting = ws; ending = row .ending; allowance = row .allowance; snag = row .snag; reply = λ _ _. [] })))
           (part-rest bytes (row .plays .at) (row .plays .len) n (b .1)))
           (copied waiting (c .args .area .now) (c .copy-from-slice .last .self) n (c .copy-from-slice .ensures .after) ∙ ap (λ l. take n l ++ drop n (c .args .area .now)) is);
       logs = λ l e. absurd (no-log l e);
+      keeps = c .play .ensures .keeps;
     }

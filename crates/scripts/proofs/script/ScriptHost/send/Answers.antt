@@ -1,4 +1,4 @@
-use mathlib.Core.Path.{ap, sym, _∙_}
+use mathlib.Core.Path.{refl, ap, sym, _∙_}
 use mathlib.Core.List.{[]}
 use Prim.Native.Nat.{_-_}
 use lib.ListN.{length}
@@ -9,7 +9,7 @@ use Rattle.scripts.proofs.Hosts.{no-log, sent-gone, sent-snag, sent-whole}
 use Rattle.scripts.proofs.script.ScriptHost.send.Needs as need
 
 pub returns-in-rest : need.returns-in-rest
-returns-in-rest c = record { goes = sent-gone (world-of (c .args .self .now)) (c .args .process) (c .args .bytes .now) (c .in-rest .ensures tt .meaning); logs = λ l e. absurd (no-log l e) }
+returns-in-rest c = record { goes = sent-gone (world-of (c .args .self .now)) (c .args .process) (c .args .bytes .now) (c .in-rest .ensures tt .meaning); logs = λ l e. absurd (no-log l e); keeps = (refl, refl) }
 
 pub returns-then-len-row : need.returns-then-len-row
 returns-then-len-row c =
@@ -19,6 +19,7 @@ returns-then-len-row c =
           sent-snag (world-of (c .args .self .now)) (c .args .process) (c .args .bytes .now) (pipe (c .args .self .now .bytes .now) row) (c .in-Some .ensures tt .meaning)
           (c .refusal .result) (c .refusal .ensures) (c .if-len-row .taken);
       logs = λ l e. absurd (no-log l e);
+      keeps = (refl, refl);
     }
 
 pub returns : need.returns
@@ -29,8 +30,9 @@ returns c =
     record {
       goes =
           sent-whole w (c .args .process) (c .args .bytes .now) (pipe bytes row) (c .in-Some .ensures tt .meaning) (λ _ _. []) _ (c .if-len-row .left)
-          (c .play .ensures
+          (c .play .ensures .value
           ∙ ap (λ ws. with-process w (c .args .process) (live (record { waiting = ws; ending = row .ending; allowance = row .allowance - length (c .args .bytes .now); snag = row .snag; reply = λ _ _. [] })))
           (sym (append-nil (part bytes (row .plays)))));
       logs = λ l e. absurd (no-log l e);
+      keeps = c .play .ensures .keeps;
     }

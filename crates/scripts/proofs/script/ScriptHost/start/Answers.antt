@@ -9,7 +9,7 @@ use Rattle.scripts.proofs.script.ScriptHost.start.Needs as need
 pub returns-then-number-ge16 : need.returns-then-number-ge16
 returns-then-number-ge16 c =
     let s = c .args .self .now in
-    record { goes = starts-none (s .bytes .now) (s .unused) (s .started) (s .count) (c .args .command .now) (omega arith) _ (omega arith); logs = λ l e. absurd (no-log l e); plays = refl }
+    record { goes = starts-none (s .bytes .now) (s .unused) (s .started) (s .count) (c .args .command .now) (omega arith) _ (omega arith); logs = λ l e. absurd (no-log l e); plays = (refl, refl) }
 
 pub returns : need.returns
 returns c =
@@ -22,5 +22,5 @@ returns c =
     record {
       goes = starts (s .bytes .now) (s .unused) (s .started) (s .count) (c .args .command .now) (omega arith) i few here is;
       logs = λ l e. absurd (no-log l e);
-      plays = (i, row .0, (sym is, row .1, newcomer (s .bytes .now) (s .unused) (s .started) (s .count) (c .args .command .now) (omega arith) i few here is, refl));
+      plays = (i, row .0, (sym is, row .1, newcomer (s .bytes .now) (s .unused) (s .started) (s .count) (c .args .command .now) (omega arith) i few here is, refl, refl));
     }
