@@ -34,15 +34,10 @@ fn meaning(number: u8) -> &'static str {
     }
 }
 
-/// An answer: all went well, in a word, or a refusal.
-fn print_answer(rt: &LibcRuntime, well: &'static str, refusal: Option<u8>) -> Result<(), AnyError> {
-    match refusal {
-        None => println!(rt, "  = {well}")?,
-        Some(number) => {
-            let meaning = meaning(number);
-            println!(rt, "  = {number}, {meaning}")?;
-        }
-    }
+/// A refusal by its number, and what that means.
+fn print_refusal(rt: &LibcRuntime, number: u8) -> Result<(), AnyError> {
+    let meaning = meaning(number);
+    println!(rt, "  = {number}, {meaning}")?;
     Ok(())
 }
 
@@ -78,7 +73,11 @@ fn send(
             }
         }
     };
-    print_answer(rt, "taken", refusal)
+    match refusal {
+        None => println!(rt, "  = taken")?,
+        Some(number) => print_refusal(rt, number)?,
+    }
+    Ok(())
 }
 
 /// A packet that was read, with its payload from the front of the area.
@@ -104,7 +103,7 @@ fn read_one(
             println!(rt, "  = {text}")?;
             Ok(())
         }
-        Err(e) => print_answer(rt, "", Some(e.refusal_number())),
+        Err(e) => print_refusal(rt, e.refusal_number()),
     }
 }
 
@@ -123,7 +122,7 @@ fn receive(
             println!(rt, "  = bytes \"{text}\"")?;
             Ok(())
         }
-        Err(e) => print_answer(rt, "", Some(e.refusal_number())),
+        Err(e) => print_refusal(rt, e.refusal_number()),
     }
 }
 
@@ -140,7 +139,7 @@ fn start(
             println!(rt, "  = process {number}")?;
             Ok(())
         }
-        Err(e) => print_answer(rt, "", Some(e.refusal_number())),
+        Err(e) => print_refusal(rt, e.refusal_number()),
     }
 }
 
@@ -153,14 +152,17 @@ fn end(
     how: How,
 ) -> Result<(), AnyError> {
     script.end(process, how);
-    match open.get_mut(process) {
-        Some(flag) => {
-            let was = *flag;
-            *flag = false;
-            print_answer(rt, if was { "ended" } else { "was not open" }, None)
-        }
-        None => print_answer(rt, "was not open", None),
+    let mut was_open = false;
+    if let Some(flag) = open.get_mut(process) {
+        was_open = *flag;
+        *flag = false;
     }
+    if was_open {
+        println!(rt, "  = ended")?;
+    } else {
+        println!(rt, "  = was not open")?;
+    }
+    Ok(())
 }
 
 /// Makes one call, and prints it with its answer.
