@@ -1,4 +1,5 @@
 //! The client's handshake with a process.
+#![tactic(auto)]
 pub mod agreement;
 pub mod inner;
 mod parts;

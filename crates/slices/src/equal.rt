@@ -33,7 +33,7 @@ impl Equal for u64 {
 
 /// The index of the first element of `items` that equals `sought`.
 pub fn first<T: Equal>(items: &[T], sought: &T) -> Option<usize>
-    ensures { Found same items.now sought.now result }
+    ensures { Found T.same items.now sought.now result }
 {
     for (i, x) in items.iter().enumerate() {
         if x.equal(sought) {
