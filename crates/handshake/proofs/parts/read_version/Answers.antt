@@ -6,23 +6,23 @@ use Rattle.handshake.specs.Handshakes.{chosen}
 use Rattle.handshake.proofs.NamesLoop.{text_at, judged_fault, judged_works, wrong_heard, right_heard}
 use Rattle.handshake.proofs.parts.read_version.Goals as goal
 
-pub returns-in-err-n : goal.returns-in-err-n
-returns-in-err-n g c =
-    let e = err_from_is_err_and c.from-residual.result c.from-residual.ensures.1 in
-    judged_fault (chosen c.args.versions.now) _ _ _ _ _ (λ x. x) _ _ c.in-err-n.ensures.goes (e.1 ∙ ap (λ x. Err x) e.2)
+pub returns-in_err-n : goal.returns-in_err-n
+returns-in_err-n g c =
+    let e = err_from_is_err_and c.from_residual.result c.from_residual.ensures.1 in
+    judged_fault (chosen c.args.versions.now) _ _ _ _ _ (λ x. x) _ _ c.in_err-n.ensures.goes (e.1 ∙ ap (λ x. Err x) e.2)
 
-pub returns-in-default : goal.returns-in-default
-returns-in-default g c =
-    judged_works (chosen c.args.versions.now) _ _ _ _ c.read-text.new.area (λ x. x) _ (Err (Wrong Version)) c.in-ok-n.ensures.goes
-    (ap (λ x. Ok (chosen c.args.versions.now (text_at c.read-text.new.area x))) (sym c.in-default.is))
+pub returns-in_default : goal.returns-in_default
+returns-in_default g c =
+    judged_works (chosen c.args.versions.now) _ _ _ _ c.read-text.new.area (λ x. x) _ (Err (Wrong Version)) c.in_ok-n.ensures.goes
+    (ap (λ x. Ok (chosen c.args.versions.now (text_at c.read-text.new.area x))) (sym c.in_default.is))
 
-pub returns-in-err-judge-version : goal.returns-in-err-judge-version
-returns-in-err-judge-version g c =
-    let e = err_from_is_err_and c.from-residual-in-err-judge-version.result c.from-residual-in-err-judge-version.ensures.1 in
-    judged_works (chosen c.args.versions.now) _ _ _ _ c.read-text.new.area (λ x. x) _ c.from-residual-in-err-judge-version.result c.in-ok-n.ensures.goes
-    (wrong_heard (λ x. x) c.read-text.new.area c.in-Some.n _ _ (chosen c.args.versions.now) _ c.in-Some.is c.in-err-judge-version.ensures (e.1 ∙ ap (λ x. Err x) e.2))
+pub returns-in_err-judge-version : goal.returns-in_err-judge-version
+returns-in_err-judge-version g c =
+    let e = err_from_is_err_and c.from_residual-in_err-judge-version.result c.from_residual-in_err-judge-version.ensures.1 in
+    judged_works (chosen c.args.versions.now) _ _ _ _ c.read-text.new.area (λ x. x) _ c.from_residual-in_err-judge-version.result c.in_ok-n.ensures.goes
+    (wrong_heard (λ x. x) c.read-text.new.area c.in-Some.n _ _ (chosen c.args.versions.now) _ c.in-Some.is c.in_err-judge-version.ensures (e.1 ∙ ap (λ x. Err x) e.2))
 
 pub returns : goal.returns
 returns g c =
-    judged_works (chosen c.args.versions.now) _ _ _ _ c.read-text.new.area (λ x. x) _ (Ok _) c.in-ok-n.ensures.goes
-    (right_heard (λ x. x) c.read-text.new.area c.in-Some.n _ (chosen c.args.versions.now) _ c.in-Some.is c.in-ok-judge-version.ensures)
+    judged_works (chosen c.args.versions.now) _ _ _ _ c.read-text.new.area (λ x. x) _ (Ok _) c.in_ok-n.ensures.goes
+    (right_heard (λ x. x) c.read-text.new.area c.in-Some.n _ (chosen c.args.versions.now) _ c.in-Some.is c.in_ok-judge-version.ensures)

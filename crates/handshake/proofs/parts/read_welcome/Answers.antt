@@ -7,23 +7,23 @@ use Rattle.handshake.specs.Handshakes.{welcomed}
 use Rattle.handshake.proofs.NamesLoop.{text_at, judged_fault, judged_works, wrong_heard, right_heard}
 use Rattle.handshake.proofs.parts.read_welcome.Goals as goal
 
-pub returns-in-err-n : goal.returns-in-err-n
-returns-in-err-n g c =
-    let e = err_from_is_err_and c.from-residual.result c.from-residual.ensures.1 in
-    judged_fault (welcomed (name_bytes c.args.prefix.now)) _ _ _ _ _ (λ x. x) _ _ c.in-err-n.ensures.goes (e.1 ∙ ap (λ x. Err x) e.2)
+pub returns-in_err-n : goal.returns-in_err-n
+returns-in_err-n g c =
+    let e = err_from_is_err_and c.from_residual.result c.from_residual.ensures.1 in
+    judged_fault (welcomed (name_bytes c.args.prefix.now)) _ _ _ _ _ (λ x. x) _ _ c.in_err-n.ensures.goes (e.1 ∙ ap (λ x. Err x) e.2)
 
-pub returns-in-default : goal.returns-in-default
-returns-in-default g c =
-    judged_works (welcomed (name_bytes c.args.prefix.now)) _ _ _ _ c.read-text.new.area (λ x. x) _ (Err (Wrong Welcome)) c.in-ok-n.ensures.goes
-    (ap (λ x. Ok (welcomed (name_bytes c.args.prefix.now) (text_at c.read-text.new.area x))) (sym c.in-default.is))
+pub returns-in_default : goal.returns-in_default
+returns-in_default g c =
+    judged_works (welcomed (name_bytes c.args.prefix.now)) _ _ _ _ c.read-text.new.area (λ x. x) _ (Err (Wrong Welcome)) c.in_ok-n.ensures.goes
+    (ap (λ x. Ok (welcomed (name_bytes c.args.prefix.now) (text_at c.read-text.new.area x))) (sym c.in_default.is))
 
-pub returns-in-err-judge-welcome : goal.returns-in-err-judge-welcome
-returns-in-err-judge-welcome g c =
-    let e = err_from_is_err_and c.from-residual-in-err-judge-welcome.result c.from-residual-in-err-judge-welcome.ensures.1 in
-    judged_works (welcomed (name_bytes c.args.prefix.now)) _ _ _ _ c.read-text.new.area (λ x. x) _ c.from-residual-in-err-judge-welcome.result c.in-ok-n.ensures.goes
-    (wrong_heard (λ x. x) c.read-text.new.area c.in-Some.n _ _ (welcomed (name_bytes c.args.prefix.now)) _ c.in-Some.is c.in-err-judge-welcome.ensures (e.1 ∙ ap (λ x. Err x) e.2))
+pub returns-in_err-judge-welcome : goal.returns-in_err-judge-welcome
+returns-in_err-judge-welcome g c =
+    let e = err_from_is_err_and c.from_residual-in_err-judge-welcome.result c.from_residual-in_err-judge-welcome.ensures.1 in
+    judged_works (welcomed (name_bytes c.args.prefix.now)) _ _ _ _ c.read-text.new.area (λ x. x) _ c.from_residual-in_err-judge-welcome.result c.in_ok-n.ensures.goes
+    (wrong_heard (λ x. x) c.read-text.new.area c.in-Some.n _ _ (welcomed (name_bytes c.args.prefix.now)) _ c.in-Some.is c.in_err-judge-welcome.ensures (e.1 ∙ ap (λ x. Err x) e.2))
 
 pub returns : goal.returns
 returns g c =
-    judged_works (welcomed (name_bytes c.args.prefix.now)) _ _ _ _ c.read-text.new.area (λ x. x) _ (Ok _) c.in-ok-n.ensures.goes
-    (right_heard (λ x. x) c.read-text.new.area c.in-Some.n _ (welcomed (name_bytes c.args.prefix.now)) _ c.in-Some.is c.in-ok-judge-welcome.ensures)
+    judged_works (welcomed (name_bytes c.args.prefix.now)) _ _ _ _ c.read-text.new.area (λ x. x) _ (Ok _) c.in_ok-n.ensures.goes
+    (right_heard (λ x. x) c.read-text.new.area c.in-Some.n _ (welcomed (name_bytes c.args.prefix.now)) _ c.in-Some.is c.in_ok-judge-welcome.ensures)

@@ -7,11 +7,11 @@ use Rattle.host.proofs.inner.fill.Goals as goal
 pub loop-got-init : goal.loop-got-init
 loop-got-init g c = (came_none _ _ _, brought_none _ _)
 
-pub returns-in-err-got : goal.returns-in-err-got
-returns-in-err-got g c =
-    let e = err_from_is_err_and c.from-residual.result c.from-residual.ensures.1 in
+pub returns-in_err-got : goal.returns-in_err-got
+returns-in_err-got g c =
+    let e = err_from_is_err_and c.from_residual.result c.from_residual.ensures.1 in
     let i = c.loop-got.invariant in
-    let s = c.in-err-got.ensures in
+    let s = c.in_err-got.ensures in
     record {
       goes = came_stop _ _ _ _ _ _ i.0 _ _ _ _ (omega arith) s.goes (e.1 ∙ ap (λ x. Err x) e.2);
       logs = logs_stop _ _ _ _ _ _ i.0 _ _ _ i.1 _ _ _ _ (omega arith) s.goes s.logs;
@@ -20,7 +20,7 @@ returns-in-err-got g c =
 pub loop-got-preserved : goal.loop-got-preserved
 loop-got-preserved g c =
     let i = c.loop-got.invariant in
-    let s = c.in-ok-got.ensures in
+    let s = c.in_ok-got.ensures in
     (came_more _ _ _ _ _ _ i.0 _ _ _ s.goes, logs_more _ _ _ _ _ _ i.0 _ _ _ i.1 _ _ _ _ s.goes s.logs)
 
 pub returns : goal.returns

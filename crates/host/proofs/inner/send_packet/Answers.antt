@@ -4,13 +4,13 @@ use Rattle.packetline.specs.Packets.{line}
 use Rattle.host.proofs.Sends.{front_works}
 use Rattle.host.proofs.inner.send_packet.Goals as goal
 
-pub returns-in-err-send : goal.returns-in-err-send
-returns-in-err-send g c =
-    let e = err_from_is_err_and c.from-residual.result c.from-residual.ensures.1 in
-    let s = c.in-err-send.ensures in
+pub returns-in_err-send : goal.returns-in_err-send
+returns-in_err-send g c =
+    let e = err_from_is_err_and c.from_residual.result c.from_residual.ensures.1 in
+    let s = c.in_err-send.ensures in
     front_works _ _ (line c.args.payload.now) c.args.area.now _ _ _ _ c.lay-data-len.ensures.laid _ c.lay-data-len.ensures.len _ _ s.goes s.logs (e.1 ∙ ap (λ x. Err x) e.2)
 
 pub returns : goal.returns
 returns g c =
-    let s = c.in-ok-send.ensures in
+    let s = c.in_ok-send.ensures in
     front_works _ _ (line c.args.payload.now) c.args.area.now _ _ _ _ c.lay-data-len.ensures.laid _ c.lay-data-len.ensures.len _ _ s.goes s.logs refl

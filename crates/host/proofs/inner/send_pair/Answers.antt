@@ -11,14 +11,14 @@ lay-pair-end-requires g c = search (rules, pair_sendable)
 pub slice-bounds-send-end : goal.slice-bounds-send-end
 slice-bounds-send-end g c = omega (arith, simp length-append at c.lay-pair-end.ensures.len)
 
-pub returns-in-err-send : goal.returns-in-err-send
-returns-in-err-send g c =
-    let e = err_from_is_err_and c.from-residual.result c.from-residual.ensures.1 in
-    let s = c.in-err-send.ensures in
+pub returns-in_err-send : goal.returns-in_err-send
+returns-in_err-send g c =
+    let e = err_from_is_err_and c.from_residual.result c.from_residual.ensures.1 in
+    let s = c.in_err-send.ensures in
     front_works _ _ (line_pkt (c.args.left.now ++ c.args.sign ∷ c.args.right.now)) c.args.area.now _ _ _ _ c.lay-pair-end.ensures.laid _ c.lay-pair-end.ensures.len _ _ s.goes s.logs
     (e.1 ∙ ap (λ x. Err x) e.2)
 
 pub returns : goal.returns
 returns g c =
-    let s = c.in-ok-send.ensures in
+    let s = c.in_ok-send.ensures in
     front_works _ _ (line_pkt (c.args.left.now ++ c.args.sign ∷ c.args.right.now)) c.args.area.now _ _ _ _ c.lay-pair-end.ensures.laid _ c.lay-pair-end.ensures.len _ _ s.goes s.logs refl

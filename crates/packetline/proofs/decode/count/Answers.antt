@@ -7,14 +7,14 @@ use Rattle.packetline.proofs.decode.count.Goals as goal
 pub loop-line-init : goal.loop-line-init
 loop-line-init c = (tt, tt, subst (SoFar c.args.bytes.now 0 0) (sym c.new-lines.ensures) (at_start c.args.bytes.now))
 
-pub overflow-add-packets : goal.overflow-add-packets
-overflow-add-packets c =
+pub overflow_add-packets : goal.overflow_add-packets
+overflow_add-packets c =
     let h = next_fits c.args.bytes.now c.loop-line.packets c.loop-line.flushes c.loop-line.lines.unread.now c.in-Some.line
     c.next.new.self.unread.now c.loop-line.invariant.2 c.in-Some.ensures.steps in
     omega (arith, h.0)
 
-pub overflow-add-flushes : goal.overflow-add-flushes
-overflow-add-flushes c =
+pub overflow_add-flushes : goal.overflow_add-flushes
+overflow_add-flushes c =
     let h = next_fits c.args.bytes.now c.loop-line.packets c.loop-line.flushes c.loop-line.lines.unread.now c.in-Some.line
     c.next.new.self.unread.now c.loop-line.invariant.2 c.in-Some.ensures.steps in
     omega (arith, h.1)
@@ -34,17 +34,17 @@ loop-line-preserved c = (
   tt,
   next_more c.args.bytes.now c.loop-line.packets c.loop-line.flushes _ c.loop-line.lines.unread.now c.in-Some.line
       c.next.new.self.unread.now c.loop-line.invariant.2 c.in-Some.ensures.steps
-      (ap (λ n. c.loop-line.flushes + n) (no_flush c.in-Some.line c.in-default-line.not-Flush) ∙ add-zero c.loop-line.flushes),
+      (ap (λ n. c.loop-line.flushes + n) (no_flush c.in-Some.line c.in_default-line.not-Flush) ∙ add-zero c.loop-line.flushes),
 )
 
-pub overflow-sub-result : goal.overflow-sub-result
-overflow-sub-result c =
-    let same = ap length (c.rest.ensures ∙ c.in-default.ensures.steps.0) in
+pub overflow_sub-result : goal.overflow_sub-result
+overflow_sub-result c =
+    let same = ap length (c.rest.ensures ∙ c.in_default.ensures.steps.0) in
     omega (arith, same, rest_fits c.args.bytes.now c.loop-line.packets c.loop-line.flushes c.loop-line.lines.unread.now c.loop-line.invariant.2)
 
 pub returns : goal.returns
 returns c =
-    let s = c.in-default.ensures.steps in
+    let s = c.in_default.ensures.steps in
     record {
       counted =
           at_end c.args.bytes.now _ c.loop-line.lines.unread.now c.loop-line.invariant.2 s.1

@@ -9,27 +9,27 @@ use Rattle.packetline.proofs.decode.streaming.Goals as goal
 pub returns-then-bytes-lt4 : goal.returns-then-bytes-lt4
 returns-then-bytes-lt4 c = record { value = sym (front_none c.args.bytes.now (omega arith)); within = search rules; exactly = reads_sent c.args.bytes.now }
 
-pub returns-in-err-packet : goal.returns-in-err-packet
-returns-in-err-packet c =
-    let e = err_from_is_err_and c.from-residual.result c.from-residual.ensures.1 in
+pub returns-in_err-packet : goal.returns-in_err-packet
+returns-in_err-packet c =
+    let e = err_from_is_err_and c.from_residual.result c.from_residual.ensures.1 in
     record {
-      value = ap (λ r. front_told r c.args.bytes.now) e.1 ∙ sym (front_bad c.args.bytes.now _ (omega arith) (sym c.in-err-packet.ensures.value));
+      value = ap (λ r. front_told r c.args.bytes.now) e.1 ∙ sym (front_bad c.args.bytes.now _ (omega arith) (sym c.in_err-packet.ensures.value));
       within = subst (λ r. Within r c.args.bytes.now) (sym e.1) (omega arith);
       exactly = reads_sent c.args.bytes.now;
     }
 
-pub returns-then-bytes-bytes-consumed : goal.returns-then-bytes-bytes-consumed
-returns-then-bytes-bytes-consumed c =
-    let n = c.payload-length-bytes-consumed.ensures in
+pub returns-then-bytes-bytes_consumed : goal.returns-then-bytes-bytes_consumed
+returns-then-bytes-bytes_consumed c =
+    let n = c.payload_length-bytes_consumed.ensures in
     record {
-      value = sym (front_cut c.args.bytes.now c.in-ok-packet.packet (omega arith) (sym c.in-ok-packet.ensures.value) (omega (arith, n)));
+      value = sym (front_cut c.args.bytes.now c.in_ok-packet.packet (omega arith) (sym c.in_ok-packet.ensures.value) (omega (arith, n)));
       within = search rules;
       exactly = reads_sent c.args.bytes.now;
     }
 
 pub returns : goal.returns
 returns c =
-    let n = c.payload-length-bytes-consumed.ensures in
-    let f = front_whole c.args.bytes.now c.in-ok-packet.packet (sym c.in-ok-packet.ensures.value) (omega (arith, n)) in
+    let n = c.payload_length-bytes_consumed.ensures in
+    let f = front_whole c.args.bytes.now c.in_ok-packet.packet (sym c.in_ok-packet.ensures.value) (omega (arith, n)) in
     let whole-rest = take_rest c.args.bytes.now 4 in
     record { value = cc; within = search rules; exactly = reads_sent c.args.bytes.now }

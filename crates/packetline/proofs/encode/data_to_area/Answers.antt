@@ -5,5 +5,5 @@ use Rattle.packetline.proofs.encode.data_to_area.Goals as goal
 
 pub returns : goal.returns
 returns c =
-    framed (line c.args.payload.now) c.args.area.now c.lay-data.new.area c.lay-data.result (search rules) (omega arith)
-    c.lay-data.ensures.len c.lay-data.ensures.laid
+    framed (line c.args.payload.now) c.args.area.now c.lay_data.new.area c.lay_data.result (search rules) (omega arith)
+    c.lay_data.ensures.len c.lay_data.ensures.laid

@@ -5,8 +5,8 @@ use Rattle.std.proofs.lemmas.Bool.Decides.{Decides-eqb}
 
 pub returns : goal.returns
 returns c =
-    let h = c.strip-prefix.ensures.cases in
+    let h = c.strip_prefix.ensures.cases in
     record {
-      value = after_is c.args.prefix.now c.args.payload.now c.strip-prefix.result h;
-      law = strip_prefix_is Decides-eqb c.args.payload.now c.args.prefix.now c.strip-prefix.result h;
+      value = after_is c.args.prefix.now c.args.payload.now c.strip_prefix.result h;
+      law = strip_prefix_is Decides-eqb c.args.payload.now c.args.prefix.now c.strip_prefix.result h;
     }

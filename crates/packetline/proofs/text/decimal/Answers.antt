@@ -6,8 +6,8 @@ use Rattle.packetline.proofs.text.decimal.Goals as goal
 pub loop-left-init : goal.loop-left-init
 loop-left-init c = spelled_none c.args.n c.args.digits.now (omega arith) (omega arith)
 
-pub overflow-sub-at : goal.overflow-sub-at
-overflow-sub-at c = spelled_on _ _ _ _ c.loop-left.invariant (omega arith)
+pub overflow_sub-at : goal.overflow_sub-at
+overflow_sub-at c = spelled_on _ _ _ _ c.loop-left.invariant (omega arith)
 
 pub loop-left-preserved : goal.loop-left-preserved
 loop-left-preserved c = spelled_more _ _ _ _ c.loop-left.invariant (omega arith) _ (omega arith)

@@ -3,8 +3,8 @@ use Rattle.packetline.specs.Text.{number_of}
 use Rattle.packetline.proofs.Numbers.{number_is, not_utf8}
 use Rattle.packetline.proofs.text.number.Goals as goal
 
-pub returns-in-default : goal.returns-in-default
-returns-in-default c = not_utf8 c.args.digits.now c.in-default.ensures.cases.0
+pub returns-in_default : goal.returns-in_default
+returns-in_default c = not_utf8 c.args.digits.now c.in_default.ensures.cases.0
 
 pub returns : goal.returns
 returns c =

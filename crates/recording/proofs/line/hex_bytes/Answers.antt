@@ -9,13 +9,13 @@ use Rattle.recording.proofs.line.hex_bytes.Goals as goal
 pub returns-then-digits-ne0 : goal.returns-then-digits-ne0
 returns-then-digits-ne0 c = odd c.args.digits.now c.if-digits-ne0.true
 
-pub returns-in-default : goal.returns-in-default
-returns-in-default c = bad_pair c.args.digits.now c.loop-i.i (omega arith) c.in-default.ensures
+pub returns-in_default : goal.returns-in_default
+returns-in_default c = bad_pair c.args.digits.now c.loop-i.i (omega arith) c.in_default.ensures
 
 pub loop-i-preserved : goal.loop-i-preserved
 loop-i-preserved c =
     let p = c.in-Some.ensures in
-    let e = pushed (c.in-Some.b ∷ []) refl c.in-ok-push.was c.push.ensures.items in (
+    let e = pushed (c.in-Some.b ∷ []) refl c.in_ok-push.was c.push.ensures.items in (
       pair_more c.args.digits.now _ c.loop-i.i c.in-Some.b (omega arith) c.loop-i.invariant.0 p.0 p.1 ∙ ap hex_of (sym e),
       subst AllBytes (sym e) (all_push _ c.in-Some.b c.loop-i.invariant.1 p.2),
     )

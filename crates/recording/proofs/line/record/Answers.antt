@@ -10,9 +10,9 @@ returns-then-is-empty c =
 
 pub returns : goal.returns
 returns c =
-    let p = c.in-ok-bytes.ensures in
+    let p = c.in_ok-bytes.ensures in
     let some = eqb-false (length c.in-Some-eq32-default.digits.now) 0 (sym c.if-is-empty.ensures) in (
       record_is c.args.direction c.args.rest.now _ _ _ c.in-Some-eq32-default.ensures.cases.0 (omega arith) p.0,
-      omega (arith, ap length p.0, hex_length (vec_items c.in-ok-bytes.bytes), some),
+      omega (arith, ap length p.0, hex_length (vec_items c.in_ok-bytes.bytes), some),
       p.1,
     )

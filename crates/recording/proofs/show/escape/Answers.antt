@@ -4,15 +4,15 @@ use Rattle.std.proofs.lemmas.Result.{err_from_is_err_and}
 use Rattle.recording.proofs.Apart.{unambiguous, escaped_more}
 use Rattle.recording.proofs.show.escape.Goals as goal
 
-pub returns-in-err-push-byte : goal.returns-in-err-push-byte
-returns-in-err-push-byte c =
-    let e = err_from_is_err_and c.from-residual.result c.from-residual.ensures.1 in
+pub returns-in_err-push-byte : goal.returns-in_err-push-byte
+returns-in_err-push-byte c =
+    let e = err_from_is_err_and c.from_residual.result c.from_residual.ensures.1 in
     record { value = rw e.1 tt; apart = unambiguous }
 
 pub loop-b-preserved : goal.loop-b-preserved
 loop-b-preserved c =
     let e = escaped_more c.args.bytes.now c.loop-b.b-index (omega arith) in
-    let p = c.in-ok-push-byte.ensures in
+    let p = c.in_ok-push-byte.ensures in
     cc
 
 pub returns : goal.returns

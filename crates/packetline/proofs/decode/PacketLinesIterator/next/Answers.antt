@@ -7,7 +7,7 @@ use Rattle.packetline.proofs.decode.PacketLinesIterator.next.Goals as goal
 pub returns-in-Complete : goal.returns-in-Complete
 returns-in-Complete c =
     let bytes = c.args.self.now.unread.now in
-    let n = c.in-Complete.bytes-consumed in
+    let n = c.in-Complete.bytes_consumed in
     record {
       steps = (
         take n bytes,

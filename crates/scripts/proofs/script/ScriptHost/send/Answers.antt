@@ -5,8 +5,8 @@ use Rattle.scripts.specs.Scripts.{part, pipe, world_of}
 use Rattle.scripts.proofs.Hosts.{no_log, sent_gone, sent_snag, sent_whole}
 use Rattle.scripts.proofs.script.ScriptHost.send.Goals as goal
 
-pub returns-in-default : goal.returns-in-default
-returns-in-default c = record { goes = sent_gone (world_of c.args.self.now) c.args.process c.args.bytes.now c.in-default.ensures.meaning; logs = λ l e. absurd (no_log l e); keeps = (refl, refl) }
+pub returns-in_default : goal.returns-in_default
+returns-in_default c = record { goes = sent_gone (world_of c.args.self.now) c.args.process c.args.bytes.now c.in_default.ensures.meaning; logs = λ l e. absurd (no_log l e); keeps = (refl, refl) }
 
 pub returns-then-len-row : goal.returns-then-len-row
 returns-then-len-row c =
