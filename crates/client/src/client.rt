@@ -53,7 +53,7 @@ impl Client {
         versions: &[u64],
         names: &[Name],
     ) -> Result<Client, greeting::Error>
-        ensures goes { Called (handshake_fault work.old versions.now names.now) (λ x. WorksBy (HandshakeLaw (name_bytes prefix.now) versions.now names.now) (handshaken (name_bytes prefix.now) versions.now names.now) (sight (log host.old) (world host.old)) process work.old x (sight (log host.new) (world host.new)) work.new) ((host.new ≡ host.old) × (work.new ≡ work.old)) (handshake_told result) }
+        ensures goes { Called (handshake_fault work.old versions.now names.now) (λ x. WorksBy (HandshakeLaw (name_bytes prefix.now) versions.now names.now) (handshaken (name_bytes prefix.now) versions.now names.now) (sight (H.log host.old) (H.world host.old)) process work.old x (sight (H.log host.new) (H.world host.new)) work.new) ((host.new ≡ host.old) × (work.new ≡ work.old)) (handshake_told result) }
         ensures itself { IfOk result (λ c. c.process ≡ process) }
     {
         if work.len() < MAX_LINE_LEN {
@@ -80,7 +80,7 @@ impl Client {
         meta: &[Meta<'_>],
         content: &[u8],
     ) -> Result<Status, invoke::Error>
-        ensures { Called (invoke_fault work.old status.old command.now meta.now) (λ x. TalksBy (InvokeLaw command.now meta.now content.now) (invoked command.now meta.now content.now) (sight (log host.old) (world host.old)) self.process (areas work.old status.old) x (sight (log host.new) (world host.new)) (areas work.new status.new)) ((host.new ≡ host.old) × (work.new ≡ work.old) × (status.new ≡ status.old)) (invoke_told result) }
+        ensures { Called (invoke_fault work.old status.old command.now meta.now) (λ x. TalksBy (InvokeLaw command.now meta.now content.now) (invoked command.now meta.now content.now) (sight (H.log host.old) (H.world host.old)) self.process (areas work.old status.old) x (sight (H.log host.new) (H.world host.new)) (areas work.new status.new)) ((host.new ≡ host.old) × (work.new ≡ work.old) × (status.new ≡ status.old)) (invoke_told result) }
     {
         if work.len() < MAX_LINE_LEN || status.len() < MAX_STATUS_LEN {
             return Err(invoke::Error::AreaTooShort);
@@ -100,7 +100,7 @@ impl Client {
         rows: &mut [PathRow],
         text: &mut [u8],
     ) -> Result<Listed, listing::Error>
-        ensures goes { Called (rooms work.old status.old) (λ x. Lists rows.old text.old (sight (log host.old) (world host.old)) self.process (areas work.old status.old) x (sight (log host.new) (world host.new)) (areas work.new status.new) rows.new text.new) ((host.new ≡ host.old) × (work.new ≡ work.old) × (status.new ≡ status.old) × (rows.new ≡ rows.old) × (text.new ≡ text.old)) (list_told result) }
+        ensures goes { Called (rooms work.old status.old) (λ x. Lists rows.old text.old (sight (H.log host.old) (H.world host.old)) self.process (areas work.old status.old) x (sight (H.log host.new) (H.world host.new)) (areas work.new status.new) rows.new text.new) ((host.new ≡ host.old) × (work.new ≡ work.old) × (status.new ≡ status.old) × (rows.new ≡ rows.old) × (text.new ≡ text.old)) (list_told result) }
         ensures seven { Seven result }
     {
         if work.len() < MAX_LINE_LEN || status.len() < MAX_STATUS_LEN {
@@ -121,7 +121,7 @@ impl Client {
         status: &mut [u8],
     ) -> Result<Output, ReadError>
         ensures bound { IfOk result (λ o. output_length o ≤ 65516) }
-        ensures goes { Checked (rooms work.old status.old) (λ x. TalksBy PieceLaw read_piece (sight (log host.old) (world host.old)) self.process (areas work.old status.old) x (sight (log host.new) (world host.new)) (areas work.new status.new)) ((host.new ≡ host.old) × (work.new ≡ work.old) × (status.new ≡ status.old)) (told (piece_of work.new) read_why result) }
+        ensures goes { Checked (rooms work.old status.old) (λ x. TalksBy PieceLaw read_piece (sight (H.log host.old) (H.world host.old)) self.process (areas work.old status.old) x (sight (H.log host.new) (H.world host.new)) (areas work.new status.new)) ((host.new ≡ host.old) × (work.new ≡ work.old) × (status.new ≡ status.old)) (told (piece_of work.new) read_why result) }
     {
         if work.len() < MAX_LINE_LEN || status.len() < MAX_STATUS_LEN {
             return Err(ReadError::AreaTooShort);
@@ -136,7 +136,7 @@ impl Client {
         work: &mut [u8],
         status: &mut [u8],
     ) -> Result<Status, ReadError>
-        ensures { Checked (rooms work.old status.old) (λ x. TalksBy StatusLaw read_status (sight (log host.old) (world host.old)) self.process (areas work.old status.old) x (sight (log host.new) (world host.new)) (areas work.new status.new)) ((host.new ≡ host.old) × (work.new ≡ work.old) × (status.new ≡ status.old)) (told (λ s. s) read_why result) }
+        ensures { Checked (rooms work.old status.old) (λ x. TalksBy StatusLaw read_status (sight (H.log host.old) (H.world host.old)) self.process (areas work.old status.old) x (sight (H.log host.new) (H.world host.new)) (areas work.new status.new)) ((host.new ≡ host.old) × (work.new ≡ work.old) × (status.new ≡ status.old)) (told (λ s. s) read_why result) }
     {
         if work.len() < MAX_LINE_LEN || status.len() < MAX_STATUS_LEN {
             return Err(ReadError::AreaTooShort);

@@ -30,7 +30,7 @@ fn send_request<H: Host>(
 ) -> Result<(), LineFault>
     requires sendable { all_sendable (request command.now meta.now) ≡ true }
     requires room { 65520 ≤ length work.old }
-    ensures { Works (send_all (request command.now meta.now)) (sight (log host.old) (world host.old)) process work.old result (sight (log host.new) (world host.new)) work.new }
+    ensures { Works (send_all (request command.now meta.now)) (sight (H.log host.old) (H.world host.old)) process work.old result (sight (H.log host.new) (H.world host.new)) work.new }
 {
     send_pair(host, process, work, b"command", b'=', command)?;
     for row in meta {
@@ -47,7 +47,7 @@ fn send_body<H: Host>(
     content: &[u8],
 ) -> Result<(), LineFault>
     requires { 65520 ≤ length work.old }
-    ensures { Works (send_all (content_packets content.now)) (sight (log host.old) (world host.old)) process work.old result (sight (log host.new) (world host.new)) work.new }
+    ensures { Works (send_all (content_packets content.now)) (sight (H.log host.old) (H.world host.old)) process work.old result (sight (H.log host.new) (H.world host.new)) work.new }
 {
     send_content(host, process, work, content)?;
     send_flush(host, process, work)
@@ -66,7 +66,7 @@ pub fn invoke<H: Host>(
     requires work { 65520 ≤ length work.old }
     requires status { 128 ≤ length status.old }
     requires sendable { all_sendable (request command.now meta.now) ≡ true }
-    ensures { TalksBy (InvokeLaw command.now meta.now content.now) (invoked command.now meta.now content.now) (sight (log host.old) (world host.old)) process (areas work.old status.old) result (sight (log host.new) (world host.new)) (areas work.new status.new) }
+    ensures { TalksBy (InvokeLaw command.now meta.now content.now) (invoked command.now meta.now content.now) (sight (H.log host.old) (H.world host.old)) process (areas work.old status.old) result (sight (H.log host.new) (H.world host.new)) (areas work.new status.new) }
 {
     send_request(host, process, work, command, meta)?;
     send_body(host, process, work, content)?;
@@ -83,7 +83,7 @@ pub fn read<H: Host>(
     requires work { 65520 ≤ length work.old }
     requires status { 128 ≤ length status.old }
     ensures bound { IfOk result (λ o. output_length o ≤ 65516) }
-    ensures goes { TalksBy PieceLaw read_piece (sight (log host.old) (world host.old)) process (areas work.old status.old) (told (piece_of work.new) (λ f. f) result) (sight (log host.new) (world host.new)) (areas work.new status.new) }
+    ensures goes { TalksBy PieceLaw read_piece (sight (H.log host.old) (H.world host.old)) process (areas work.old status.old) (told (piece_of work.new) (λ f. f) result) (sight (H.log host.new) (H.world host.new)) (areas work.new status.new) }
 {
     match read_content(host, process, work)? {
         Some(n) => Ok(Output::Payload(n)),
@@ -94,7 +94,7 @@ pub fn read<H: Host>(
 /// The request of a listing.
 fn ask_paths<H: Host>(host: &mut H, process: usize, work: &mut [u8]) -> Result<(), LineFault>
     requires { 65520 ≤ length work.old }
-    ensures { Works (send_all list_request) (sight (log host.old) (world host.old)) process work.old result (sight (log host.new) (world host.new)) work.new }
+    ensures { Works (send_all list_request) (sight (H.log host.old) (H.world host.old)) process work.old result (sight (H.log host.new) (H.world host.new)) work.new }
 {
     send_line(host, process, work, b"command=list_available_blobs")?;
     send_flush(host, process, work)
@@ -109,7 +109,7 @@ fn read_paths<H: Host>(
     text: &mut [u8],
 ) -> Result<Counts, LineFault>
     requires { 65520 ≤ length work.old }
-    ensures { (status : List ℕ) → ReadsPaths space.old text.old (sight (log host.old) (world host.old)) process (areas work.old status) result (sight (log host.new) (world host.new)) (areas work.new status) space.new text.new }
+    ensures { (status : List ℕ) → ReadsPaths space.old text.old (sight (H.log host.old) (H.world host.old)) process (areas work.old status) result (sight (H.log host.new) (H.world host.new)) (areas work.new status) space.new text.new }
 {
     let mut rows = Rows::new(space);
     let mut notes = Kept {
@@ -145,7 +145,7 @@ pub fn list<H: Host>(
 ) -> Result<Listed, LineFault>
     requires work { 65520 ≤ length work.old }
     requires status { 128 ≤ length status.old }
-    ensures { Lists rows.old text.old (sight (log host.old) (world host.old)) process (areas work.old status.old) result (sight (log host.new) (world host.new)) (areas work.new status.new) rows.new text.new }
+    ensures { Lists rows.old text.old (sight (H.log host.old) (H.world host.old)) process (areas work.old status.old) result (sight (H.log host.new) (H.world host.new)) (areas work.new status.new) rows.new text.new }
 {
     ask_paths(host, process, work)?;
     let counts = read_paths(host, process, work, rows, text)?;

@@ -22,7 +22,7 @@ pub fn handshake<H: Host>(
 ) -> Result<Agreement, Refusal>
     requires work { 65520 ≤ length work.old }
     requires few { length names.now ≤ 32 }
-    ensures { WorksBy (HandshakeLaw (name_bytes prefix.now) versions.now names.now) (handshaken (name_bytes prefix.now) versions.now names.now) (sight (log host.old) (world host.old)) process work.old (heard shaken_by result) (sight (log host.new) (world host.new)) work.new }
+    ensures { WorksBy (HandshakeLaw (name_bytes prefix.now) versions.now names.now) (handshaken (name_bytes prefix.now) versions.now names.now) (sight (H.log host.old) (H.world host.old)) process work.old (heard shaken_by result) (sight (H.log host.new) (H.world host.new)) work.new }
 {
     send_hello(host, process, work, prefix, versions)?;
     read_welcome(host, process, work, prefix)?;

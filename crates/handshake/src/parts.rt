@@ -25,7 +25,7 @@ fn send_version<H: Host>(
     version: u64,
 ) -> Result<(), LineFault>
     requires room { 65520 ≤ length area.old }
-    ensures { Works (send (version_line version)) (sight (log host.old) (world host.old)) process area.old result (sight (log host.new) (world host.new)) area.new }
+    ensures { Works (send (version_line version)) (sight (H.log host.old) (H.world host.old)) process area.old result (sight (H.log host.new) (H.world host.new)) area.new }
 {
     let mut digits = [0u8; 20];
     let at = decimal(version, &mut digits);
@@ -41,7 +41,7 @@ pub(crate) fn send_hello<H: Host>(
     versions: &[u64],
 ) -> Result<(), LineFault>
     requires room { 65520 ≤ length area.old }
-    ensures { Works (send_all (hello (name_bytes prefix.now) versions.now)) (sight (log host.old) (world host.old)) process area.old result (sight (log host.new) (world host.new)) area.new }
+    ensures { Works (send_all (hello (name_bytes prefix.now) versions.now)) (sight (H.log host.old) (H.world host.old)) process area.old result (sight (H.log host.new) (H.world host.new)) area.new }
 {
     send_pair(host, process, area, prefix.as_bytes(), b'-', b"client")?;
     for version in versions {
@@ -58,7 +58,7 @@ pub(crate) fn send_desired<H: Host>(
     names: &[Name],
 ) -> Result<(), LineFault>
     requires room { 65520 ≤ length area.old }
-    ensures { Works (send_all (desired names.now)) (sight (log host.old) (world host.old)) process area.old result (sight (log host.new) (world host.new)) area.new }
+    ensures { Works (send_all (desired names.now)) (sight (H.log host.old) (H.world host.old)) process area.old result (sight (H.log host.new) (H.world host.new)) area.new }
 {
     for name in names {
         send_pair(host, process, area, b"capability", b'=', name.as_bytes())?;
@@ -126,7 +126,7 @@ pub(crate) fn read_welcome<H: Host>(
     prefix: &Name,
 ) -> Result<(), Refusal>
     requires room { 65520 ≤ length area.old }
-    ensures { Works (read_judged (welcomed (name_bytes prefix.now))) (sight (log host.old) (world host.old)) process area.old (heard (λ u. u) result) (sight (log host.new) (world host.new)) area.new }
+    ensures { Works (read_judged (welcomed (name_bytes prefix.now))) (sight (H.log host.old) (H.world host.old)) process area.old (heard (λ u. u) result) (sight (H.log host.new) (H.world host.new)) area.new }
 {
     let Some(n) = read_text(host, process, area)? else {
         return Err(Refusal::Protocol(Protocol::Welcome));
@@ -142,7 +142,7 @@ pub(crate) fn read_version<H: Host>(
     versions: &[u64],
 ) -> Result<u64, Refusal>
     requires room { 65520 ≤ length area.old }
-    ensures { Works (read_judged (chosen versions.now)) (sight (log host.old) (world host.old)) process area.old (heard (λ n. n) result) (sight (log host.new) (world host.new)) area.new }
+    ensures { Works (read_judged (chosen versions.now)) (sight (H.log host.old) (H.world host.old)) process area.old (heard (λ n. n) result) (sight (H.log host.new) (H.world host.new)) area.new }
 {
     let Some(n) = read_text(host, process, area)? else {
         return Err(Refusal::Protocol(Protocol::Version));
@@ -157,7 +157,7 @@ pub(crate) fn read_end<H: Host>(
     area: &mut [u8],
 ) -> Result<(), Refusal>
     requires room { 65520 ≤ length area.old }
-    ensures { Works (read_judged ended) (sight (log host.old) (world host.old)) process area.old (heard (λ u. u) result) (sight (log host.new) (world host.new)) area.new }
+    ensures { Works (read_judged ended) (sight (H.log host.old) (H.world host.old)) process area.old (heard (λ u. u) result) (sight (H.log host.new) (H.world host.new)) area.new }
 {
     match read_text(host, process, area)? {
         None => Ok(()),
@@ -173,7 +173,7 @@ pub(crate) fn read_names<H: Host>(
     names: &[Name],
 ) -> Result<Capabilities, Refusal>
     requires room { 65520 ≤ length area.old }
-    ensures { Works (read_names names.now) (sight (log host.old) (world host.old)) process area.old (heard (λ c. c.mask) result) (sight (log host.new) (world host.new)) area.new }
+    ensures { Works (read_names names.now) (sight (H.log host.old) (H.world host.old)) process area.old (heard (λ c. c.mask) result) (sight (H.log host.new) (H.world host.new)) area.new }
 {
     let mut named = Capabilities::none();
     while let Some(n) = read_text(host, process, area)? {

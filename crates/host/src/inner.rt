@@ -20,8 +20,8 @@ pub const MAX_LINE_LEN: usize = 65_520;
 
 /// As many bytes as `area` has, however the host cuts them; or what came, and the ending.
 fn fill<H: Host>(host: &mut H, process: usize, area: &mut [u8]) -> Result<(), Fault>
-    ensures goes { Filled (world host.old) process area.old result (world host.new) area.new }
-    ensures logs { Brought process (log host.old) (take (length area.old) (waits (world host.old) process)) (log host.new) }
+    ensures goes { Filled (H.world host.old) process area.old result (H.world host.new) area.new }
+    ensures logs { Brought process (H.log host.old) (take (length area.old) (waits (H.world host.old) process)) (H.log host.new) }
 {
     let mut got = 0;
     while got < area.len() {
@@ -38,8 +38,8 @@ pub fn read_packet<H: Host>(
 ) -> Result<Packet, LineFault>
     requires { 65520 ≤ length area.old }
     ensures bound { IfOk result (λ k. payload_length k ≤ 65516) }
-    ensures goes { Works read (sight (log host.old) (world host.old)) process area.old (shown area.new result) (sight (log host.new) (world host.new)) area.new }
-    ensures stream { Streamed (waits (world host.old) process) (shown area.new result) (waits (world host.new) process) }
+    ensures goes { Works read (sight (H.log host.old) (H.world host.old)) process area.old (shown area.new result) (sight (H.log host.new) (H.world host.new)) area.new }
+    ensures stream { Streamed (waits (H.world host.old) process) (shown area.new result) (waits (H.world host.new) process) }
 {
     let mut head = [0u8; 4];
     fill(host, process, &mut head)?;
@@ -58,7 +58,7 @@ pub fn read_content<H: Host>(
 ) -> Result<Option<usize>, LineFault>
     requires { 65520 ≤ length area.old }
     ensures bound { IfOk result (λ o. IfSome o (λ n. n ≤ 65516)) }
-    ensures goes { Works read_content (sight (log host.old) (world host.old)) process area.old (shown_part area.new result) (sight (log host.new) (world host.new)) area.new }
+    ensures goes { Works read_content (sight (H.log host.old) (H.world host.old)) process area.old (shown_part area.new result) (sight (H.log host.new) (H.world host.new)) area.new }
 {
     match read_packet(host, process, area)? {
         Packet::Flush => Ok(None),
@@ -74,7 +74,7 @@ pub fn read_text<H: Host>(
     area: &mut [u8],
 ) -> Result<Option<usize>, LineFault>
     requires { 65520 ≤ length area.old }
-    ensures goes { Works read_text (sight (log host.old) (world host.old)) process area.old (shown_part area.new result) (sight (log host.new) (world host.new)) area.new }
+    ensures goes { Works read_text (sight (H.log host.old) (H.world host.old)) process area.old (shown_part area.new result) (sight (H.log host.new) (H.world host.new)) area.new }
     ensures bound { IfOk result (λ o. IfSome o (λ n. n ≤ 65516)) }
 {
     let Some(n) = read_content(host, process, area)? else {
@@ -93,7 +93,7 @@ pub fn send_packet<H: Host>(
 ) -> Result<(), LineFault>
     requires framable { framable payload.now ≡ true }
     requires room { 65520 ≤ length area.old }
-    ensures { Works (send (line payload.now)) (sight (log host.old) (world host.old)) process area.old result (sight (log host.new) (world host.new)) area.new }
+    ensures { Works (send (line payload.now)) (sight (H.log host.old) (H.world host.old)) process area.old result (sight (H.log host.new) (H.world host.new)) area.new }
 {
     let len = lay_data(payload, area);
     Ok(host.send(process, &area[0..len])?)
@@ -108,7 +108,7 @@ pub fn send_line<H: Host>(
 ) -> Result<(), LineFault>
     requires sendable { sendable (line_pkt text.now) ≡ true }
     requires room { 65520 ≤ length area.old }
-    ensures { Works (send (line_pkt text.now)) (sight (log host.old) (world host.old)) process area.old result (sight (log host.new) (world host.new)) area.new }
+    ensures { Works (send (line_pkt text.now)) (sight (H.log host.old) (H.world host.old)) process area.old result (sight (H.log host.new) (H.world host.new)) area.new }
 {
     send_packet(host, process, area, text)
 }
@@ -124,7 +124,7 @@ pub fn send_pair<H: Host>(
 ) -> Result<(), LineFault>
     requires short { length left.now + length right.now + 1 ≤ 65516 }
     requires room { 65520 ≤ length area.old }
-    ensures { Works (send (line_pkt (left.now ++ sign ∷ right.now))) (sight (log host.old) (world host.old)) process area.old result (sight (log host.new) (world host.new)) area.new }
+    ensures { Works (send (line_pkt (left.now ++ sign ∷ right.now))) (sight (H.log host.old) (H.world host.old)) process area.old result (sight (H.log host.new) (H.world host.new)) area.new }
 {
     let end = lay_pair(left, sign, right, area);
     Ok(host.send(process, &area[0..end])?)
@@ -133,7 +133,7 @@ pub fn send_pair<H: Host>(
 /// A flush.
 pub fn send_flush<H: Host>(host: &mut H, process: usize, area: &mut [u8]) -> Result<(), LineFault>
     requires { 65520 ≤ length area.old }
-    ensures { Works (send flush) (sight (log host.old) (world host.old)) process area.old result (sight (log host.new) (world host.new)) area.new }
+    ensures { Works (send flush) (sight (H.log host.old) (H.world host.old)) process area.old result (sight (H.log host.new) (H.world host.new)) area.new }
 {
     let n = lay_flush(area);
     Ok(host.send(process, &area[0..n])?)
@@ -148,7 +148,7 @@ pub fn send_lines<H: Host>(
 ) -> Result<(), LineFault>
     requires sendable { all_sendable (map (λ x. line_pkt x.now) lines.now) ≡ true }
     requires room { 65520 ≤ length area.old }
-    ensures { Works (send_all (map (λ x. line_pkt x.now) lines.now)) (sight (log host.old) (world host.old)) process area.old result (sight (log host.new) (world host.new)) area.new }
+    ensures { Works (send_all (map (λ x. line_pkt x.now) lines.now)) (sight (H.log host.old) (H.world host.old)) process area.old result (sight (H.log host.new) (H.world host.new)) area.new }
 {
     for line in lines {
         send_line(host, process, area, line)?;
@@ -164,7 +164,7 @@ pub fn send_content<H: Host>(
     content: &[u8],
 ) -> Result<(), LineFault>
     requires { 65520 ≤ length area.old }
-    ensures goes { Works (send_all (map line (parts content.now))) (sight (log host.old) (world host.old)) process area.old result (sight (log host.new) (world host.new)) area.new }
+    ensures goes { Works (send_all (map line (parts content.now))) (sight (H.log host.old) (H.world host.old)) process area.old result (sight (H.log host.new) (H.world host.new)) area.new }
     ensures law { Parted content.now }
 {
     let mut at = 0;

@@ -42,7 +42,7 @@ impl From<LineFault> for ReadError {
 /// The next packet of a process; its payload lies at the front of `area`, which has room for the longest packet.
 pub fn read<H: Host>(host: &mut H, process: usize, area: &mut [u8]) -> Result<Packet, ReadError>
     ensures bound { IfOk result (λ k. payload_length k ≤ 65516) }
-    ensures goes { Checked (room area.old) (λ x. Works read_one (sight (log host.old) (world host.old)) process area.old x (sight (log host.new) (world host.new)) area.new × Streamed (waits (world host.old) process) x (waits (world host.new) process)) ((host.new ≡ host.old) × (area.new ≡ area.old)) (told (λ k. with_payload k area.new) read_why result) }
+    ensures goes { Checked (room area.old) (λ x. Works read_one (sight (H.log host.old) (H.world host.old)) process area.old x (sight (H.log host.new) (H.world host.new)) area.new × Streamed (waits (H.world host.old) process) x (waits (H.world host.new) process)) ((host.new ≡ host.old) × (area.new ≡ area.old)) (told (λ k. with_payload k area.new) read_why result) }
 {
     if area.len() < MAX_LINE_LEN {
         return Err(ReadError::AreaTooShort);

@@ -49,7 +49,7 @@ pub fn send_line<H: Host>(
     area: &mut [u8],
     text: &[u8],
 ) -> Result<(), SendError>
-    ensures { Checked (judged (line_pkt text.now) area.old) (λ x. Works (send (line_pkt text.now)) (sight (log host.old) (world host.old)) process area.old x (sight (log host.new) (world host.new)) area.new) ((host.new ≡ host.old) × (area.new ≡ area.old)) (told (λ u. u) send_why result) }
+    ensures { Checked (judged (line_pkt text.now) area.old) (λ x. Works (send (line_pkt text.now)) (sight (H.log host.old) (H.world host.old)) process area.old x (sight (H.log host.new) (H.world host.new)) area.new) ((host.new ≡ host.old) × (area.new ≡ area.old)) (told (λ u. u) send_why result) }
 {
     if area.len() < MAX_LINE_LEN {
         return Err(SendError::AreaTooShort);
@@ -62,7 +62,7 @@ pub fn send_line<H: Host>(
 
 /// A flush.
 pub fn send_flush<H: Host>(host: &mut H, process: usize, area: &mut [u8]) -> Result<(), SendError>
-    ensures { Checked (room area.old) (λ x. Works (send flush) (sight (log host.old) (world host.old)) process area.old x (sight (log host.new) (world host.new)) area.new) ((host.new ≡ host.old) × (area.new ≡ area.old)) (told (λ u. u) send_why result) }
+    ensures { Checked (room area.old) (λ x. Works (send flush) (sight (H.log host.old) (H.world host.old)) process area.old x (sight (H.log host.new) (H.world host.new)) area.new) ((host.new ≡ host.old) × (area.new ≡ area.old)) (told (λ u. u) send_why result) }
 {
     if area.len() < MAX_LINE_LEN {
         return Err(SendError::AreaTooShort);
@@ -77,7 +77,7 @@ pub fn send_content<H: Host>(
     area: &mut [u8],
     content: &[u8],
 ) -> Result<(), SendError>
-    ensures { Checked (room area.old) (λ x. Parted content.now × Works (send_all (map line (parts content.now))) (sight (log host.old) (world host.old)) process area.old x (sight (log host.new) (world host.new)) area.new) ((host.new ≡ host.old) × (area.new ≡ area.old)) (told (λ u. u) send_why result) }
+    ensures { Checked (room area.old) (λ x. Parted content.now × Works (send_all (map line (parts content.now))) (sight (H.log host.old) (H.world host.old)) process area.old x (sight (H.log host.new) (H.world host.new)) area.new) ((host.new ≡ host.old) × (area.new ≡ area.old)) (told (λ u. u) send_why result) }
 {
     if area.len() < MAX_LINE_LEN {
         return Err(SendError::AreaTooShort);

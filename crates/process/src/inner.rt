@@ -63,7 +63,7 @@ pub fn read_status<H: Host>(
 ) -> Result<Status, LineFault>
     requires work { 65520 ≤ length work.old }
     requires status { 128 ≤ length status.old }
-    ensures { TalksBy StatusLaw status_read (sight (log host.old) (world host.old)) process (areas work.old status.old) result (sight (log host.new) (world host.new)) (areas work.new status.new) }
+    ensures { TalksBy StatusLaw status_read (sight (H.log host.old) (H.world host.old)) process (areas work.old status.old) result (sight (H.log host.new) (H.world host.new)) (areas work.new status.new) }
 {
     let mut told = Status::Previous;
     while let Some(n) = read_text(host, process, work)? {

@@ -1,4 +1,5 @@
 //! Recorded exchanges: their lines, and bytes shown to a person.
 #![tactic(auto)]
+
 pub mod line;
 pub mod show;

@@ -1,5 +1,6 @@
 //! Runs the worked cases, and some more at the limits. Those of the table are proved over the definitions too.
 #![tactic(auto)]
+
 ghost use Rattle.worked.specs.Worked.{Worked};
 
 use packetline::line::Line;

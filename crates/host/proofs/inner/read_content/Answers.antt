@@ -4,8 +4,8 @@ use Rattle.packetline.specs.Packets.{payload_length}
 use Rattle.host.proofs.Wants.{content_answer, marker_answer, content_fault, content_works}
 use Rattle.host.proofs.inner.read_content.Goals as goal
 
-pub returns-in_err-read-packet : goal.returns-in_err-read-packet
-returns-in_err-read-packet g c =
+pub returns-in_err-read_packet : goal.returns-in_err-read_packet
+returns-in_err-read_packet g c =
     let e = err_from_is_err_and c.from_residual.result c.from_residual.ensures.1 in
     record { bound = search rules; goes = content_fault _ _ _ _ _ _ _ c.in_err-read-packet.ensures.goes (e.1 ∙ ap (λ x. Err x) e.2) }
 

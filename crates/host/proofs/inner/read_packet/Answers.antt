@@ -19,8 +19,8 @@ returns-in_err-packet g c =
     let t = read_bad _ _ c.args.area.now _ _ _ _ f.logs _ f.goes _ _ _ c.in_err-packet.ensures.value (e.1 ∙ ap (λ x. Err x) e.2) in
     record { bound = search rules; goes = t; stream = streamed (t []) }
 
-pub slice-bounds-fill-end-in-Data : goal.slice-bounds-fill-end-in-Data
-slice-bounds-fill-end-in-Data g c =
+pub slice_bounds-fill-end-in-Data : goal.slice_bounds-fill-end-in-Data
+slice_bounds-fill-end-in-Data g c =
     let h : c.in-Data.n ≤ 65516 = subst (λ k. payload_length k ≤ 65516) c.in-Data.is c.in_ok-packet.ensures.bound in
     search rules
 

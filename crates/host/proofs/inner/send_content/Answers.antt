@@ -9,8 +9,8 @@ use Rattle.host.proofs.inner.send_content.Goals as goal
 pub loop-at-init : goal.loop-at-init
 loop-at-init g c = (omega arith, λ status. leads_here _ _ _ _)
 
-pub returns-in_err-send-packet : goal.returns-in_err-send-packet
-returns-in_err-send-packet g c =
+pub returns-in_err-send_packet : goal.returns-in_err-send_packet
+returns-in_err-send_packet g c =
     let e = err_from_is_err_and c.from_residual.result c.from_residual.ensures.1 in
     let next = parts_next c.args.content.now c.loop-at.at c.min-n.result (omega arith) (omega arith) in
     record {

@@ -9,15 +9,15 @@ use Rattle.host.proofs.inner.send_lines.Goals as goal
 pub loop-line-init : goal.loop-line-init
 loop-line-init g c = λ status. leads_here _ _ _ _
 
-pub send-line-requires : goal.send-line-requires
-send-line-requires g c =
+pub send_line-requires : goal.send_line-requires
+send_line-requires g c =
     record {
       sendable = each_sendable (λ x. line_pkt x.now) c.args.lines.now c.loop-line.line-index (record { ref_ptr = (0, 0); now = [] }) c.requires.sendable c.loop-line-test.true;
       room = omega arith;
     }
 
-pub returns-in_err-send-line : goal.returns-in_err-send-line
-returns-in_err-send-line g c =
+pub returns-in_err-send_line : goal.returns-in_err-send_line
+returns-in_err-send_line g c =
     let e = err_from_is_err_and c.from_residual.result c.from_residual.ensures.1 in
     let next = lines_more (λ x. line_pkt x.now) c.args.lines.now c.loop-line.line-index (record { ref_ptr = (0, 0); now = [] }) (omega arith) in
     packet_stop _ _ _ _ _ _ next c.loop-line.invariant _ _ _ _ c.in_err-send-line.ensures (e.1 ∙ ap (λ x. Err x) e.2)

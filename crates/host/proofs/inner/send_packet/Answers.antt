@@ -8,9 +8,9 @@ pub returns-in_err-send : goal.returns-in_err-send
 returns-in_err-send g c =
     let e = err_from_is_err_and c.from_residual.result c.from_residual.ensures.1 in
     let s = c.in_err-send.ensures in
-    front_works _ _ (line c.args.payload.now) c.args.area.now _ _ _ _ c.lay-data-len.ensures.laid _ c.lay-data-len.ensures.len _ _ s.goes s.logs (e.1 ∙ ap (λ x. Err x) e.2)
+    front_works _ _ (line c.args.payload.now) c.args.area.now _ _ _ _ c.lay_data-len.ensures.laid _ c.lay_data-len.ensures.len _ _ s.goes s.logs (e.1 ∙ ap (λ x. Err x) e.2)
 
 pub returns : goal.returns
 returns g c =
     let s = c.in_ok-send.ensures in
-    front_works _ _ (line c.args.payload.now) c.args.area.now _ _ _ _ c.lay-data-len.ensures.laid _ c.lay-data-len.ensures.len _ _ s.goes s.logs refl
+    front_works _ _ (line c.args.payload.now) c.args.area.now _ _ _ _ c.lay_data-len.ensures.laid _ c.lay_data-len.ensures.len _ _ s.goes s.logs refl

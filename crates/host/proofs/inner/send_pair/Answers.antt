@@ -5,20 +5,20 @@ use Rattle.packetline.proofs.Laying.{pair_sendable}
 use Rattle.host.proofs.Sends.{front_works}
 use Rattle.host.proofs.inner.send_pair.Goals as goal
 
-pub lay-pair-end-requires : goal.lay-pair-end-requires
-lay-pair-end-requires g c = search (rules, pair_sendable)
+pub lay_pair-end-requires : goal.lay_pair-end-requires
+lay_pair-end-requires g c = search (rules, pair_sendable)
 
-pub slice-bounds-send-end : goal.slice-bounds-send-end
-slice-bounds-send-end g c = omega (arith, simp length-append at c.lay-pair-end.ensures.len)
+pub slice_bounds-send-end : goal.slice_bounds-send-end
+slice_bounds-send-end g c = omega (arith, simp length-append at c.lay_pair-end.ensures.len)
 
 pub returns-in_err-send : goal.returns-in_err-send
 returns-in_err-send g c =
     let e = err_from_is_err_and c.from_residual.result c.from_residual.ensures.1 in
     let s = c.in_err-send.ensures in
-    front_works _ _ (line_pkt (c.args.left.now ++ c.args.sign ∷ c.args.right.now)) c.args.area.now _ _ _ _ c.lay-pair-end.ensures.laid _ c.lay-pair-end.ensures.len _ _ s.goes s.logs
+    front_works _ _ (line_pkt (c.args.left.now ++ c.args.sign ∷ c.args.right.now)) c.args.area.now _ _ _ _ c.lay_pair-end.ensures.laid _ c.lay_pair-end.ensures.len _ _ s.goes s.logs
     (e.1 ∙ ap (λ x. Err x) e.2)
 
 pub returns : goal.returns
 returns g c =
     let s = c.in_ok-send.ensures in
-    front_works _ _ (line_pkt (c.args.left.now ++ c.args.sign ∷ c.args.right.now)) c.args.area.now _ _ _ _ c.lay-pair-end.ensures.laid _ c.lay-pair-end.ensures.len _ _ s.goes s.logs refl
+    front_works _ _ (line_pkt (c.args.left.now ++ c.args.sign ∷ c.args.right.now)) c.args.area.now _ _ _ _ c.lay_pair-end.ensures.laid _ c.lay_pair-end.ensures.len _ _ s.goes s.logs refl

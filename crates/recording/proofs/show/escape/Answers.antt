@@ -4,8 +4,8 @@ use Rattle.std.proofs.lemmas.Result.{err_from_is_err_and}
 use Rattle.recording.proofs.Apart.{unambiguous, escaped_more}
 use Rattle.recording.proofs.show.escape.Goals as goal
 
-pub returns-in_err-push-byte : goal.returns-in_err-push-byte
-returns-in_err-push-byte c =
+pub returns-in_err-push_byte : goal.returns-in_err-push_byte
+returns-in_err-push_byte c =
     let e = err_from_is_err_and c.from_residual.result c.from_residual.ensures.1 in
     record { value = rw e.1 tt; apart = unambiguous }
 

@@ -13,9 +13,9 @@ four xs ys zs a b c d h l p q r s =
 
 pub returns : goal.returns
 returns c =
-    let x = pushed (92 ∷ 120 ∷ []) refl c.in_ok-push-str.was c.push-str.ensures.bytes in
-    let xh = pushed (encode c.hex-char.result) x c.in_ok-push.was c.push.ensures.bytes in
-    let xhl = pushed (encode c.hex-char-2.result) xh c.in_ok-push-2.was c.push-2.ensures.bytes in
-    let high = c.push.ensures.ascii c.hex-char.ensures.ascii in
-    let low = c.push-2.ensures.ascii c.hex-char-2.ensures.ascii in
-    xhl ∙ four _ _ _ 92 120 _ _ _ _ high c.hex-char.ensures.value low c.hex-char-2.ensures.value
+    let x = pushed (92 ∷ 120 ∷ []) refl c.in_ok-push-str.was c.push_str.ensures.bytes in
+    let xh = pushed (encode c.hex_char.result) x c.in_ok-push.was c.push.ensures.bytes in
+    let xhl = pushed (encode c.hex_char-2.result) xh c.in_ok-push-2.was c.push-2.ensures.bytes in
+    let high = c.push.ensures.ascii c.hex_char.ensures.ascii in
+    let low = c.push-2.ensures.ascii c.hex_char-2.ensures.ascii in
+    xhl ∙ four _ _ _ 92 120 _ _ _ _ high c.hex_char.ensures.value low c.hex_char-2.ensures.value
