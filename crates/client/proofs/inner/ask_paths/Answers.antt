@@ -7,10 +7,10 @@ use Rattle.client.specs.Listings.{list_request}
 use Rattle.process.proofs.Lines.{packet_last}
 use Rattle.client.proofs.inner.ask_paths.Goals as goal
 
-pub returns-in_err-send-line : goal.returns-in_err-send-line
-returns-in_err-send-line g c =
+pub returns-in_err-send_line : goal.returns-in_err-send_line
+returns-in_err-send_line g c =
     let e = err_from_is_err_and c.from_residual.result c.from_residual.ensures.1 in
-    packet_stop _ _ _ _ _ _ {left = list_request} refl (λ a. leads_here _ _ _ _) _ _ _ _ c.in_err-send-line.ensures (e.1 ∙ ap (λ x. Err x) e.2)
+    packet_stop _ _ _ _ _ _ {left = list_request} refl (λ a. leads_here _ _ _ _) _ _ _ _ c.in_err-send_line.ensures (e.1 ∙ ap (λ x. Err x) e.2)
 
 pub returns : goal.returns
-returns g c = packet_last _ _ _ _ _ _ {x = flush} refl (packet_more _ _ _ _ _ _ {left = list_request} refl (λ a. leads_here _ _ _ _) _ _ _ c.in_ok-send-line.ensures) _ _ _ c.send-flush.ensures
+returns g c = packet_last _ _ _ _ _ _ {x = flush} refl (packet_more _ _ _ _ _ _ {left = list_request} refl (λ a. leads_here _ _ _ _) _ _ _ c.in_ok-send_line.ensures) _ _ _ c.send_flush.ensures

@@ -13,16 +13,16 @@ returns-in_err-n g c =
 
 pub returns-in_default : goal.returns-in_default
 returns-in_default g c =
-    judged_works (chosen c.args.versions.now) _ _ _ _ c.read-text.new.area (λ x. x) _ (Err (Wrong Version)) c.in_ok-n.ensures.goes
-    (ap (λ x. Ok (chosen c.args.versions.now (text_at c.read-text.new.area x))) (sym c.in_default.is))
+    judged_works (chosen c.args.versions.now) _ _ _ _ c.read_text.new.area (λ x. x) _ (Err (Wrong Version)) c.in_ok-n.ensures.goes
+    (ap (λ x. Ok (chosen c.args.versions.now (text_at c.read_text.new.area x))) (sym c.in_default.is))
 
-pub returns-in_err-judge-version : goal.returns-in_err-judge-version
-returns-in_err-judge-version g c =
-    let e = err_from_is_err_and c.from_residual-in_err-judge-version.result c.from_residual-in_err-judge-version.ensures.1 in
-    judged_works (chosen c.args.versions.now) _ _ _ _ c.read-text.new.area (λ x. x) _ c.from_residual-in_err-judge-version.result c.in_ok-n.ensures.goes
-    (wrong_heard (λ x. x) c.read-text.new.area c.in-Some.n _ _ (chosen c.args.versions.now) _ c.in-Some.is c.in_err-judge-version.ensures (e.1 ∙ ap (λ x. Err x) e.2))
+pub returns-in_err-judge_version : goal.returns-in_err-judge_version
+returns-in_err-judge_version g c =
+    let e = err_from_is_err_and c.from_residual-in_err-judge_version.result c.from_residual-in_err-judge_version.ensures.1 in
+    judged_works (chosen c.args.versions.now) _ _ _ _ c.read_text.new.area (λ x. x) _ c.from_residual-in_err-judge_version.result c.in_ok-n.ensures.goes
+    (wrong_heard (λ x. x) c.read_text.new.area c.in-Some.n _ _ (chosen c.args.versions.now) _ c.in-Some.is c.in_err-judge_version.ensures (e.1 ∙ ap (λ x. Err x) e.2))
 
 pub returns : goal.returns
 returns g c =
-    judged_works (chosen c.args.versions.now) _ _ _ _ c.read-text.new.area (λ x. x) _ (Ok _) c.in_ok-n.ensures.goes
-    (right_heard (λ x. x) c.read-text.new.area c.in-Some.n _ (chosen c.args.versions.now) _ c.in-Some.is c.in_ok-judge-version.ensures)
+    judged_works (chosen c.args.versions.now) _ _ _ _ c.read_text.new.area (λ x. x) _ (Ok _) c.in_ok-n.ensures.goes
+    (right_heard (λ x. x) c.read_text.new.area c.in-Some.n _ (chosen c.args.versions.now) _ c.in-Some.is c.in_ok-judge_version.ensures)

@@ -6,17 +6,17 @@ use Rattle.process.proofs.Lines.{lines_last, packet_last}
 use Rattle.handshake.proofs.Places.{names_next}
 use Rattle.handshake.proofs.parts.send_desired.Goals as goal
 
-pub returns-in_err-send-pair : goal.returns-in_err-send-pair
-returns-in_err-send-pair g c =
+pub returns-in_err-send_pair : goal.returns-in_err-send_pair
+returns-in_err-send_pair g c =
     let e = err_from_is_err_and c.from_residual.result c.from_residual.ensures.1 in
-    let next = names_next c.args.names.now c.loop-name.name-index c.name-item.result c.as-bytes.result.now (omega arith) c.name-item.is c.as-bytes.ensures.value in
-    packet_stop _ _ _ _ _ _ next c.loop-name.invariant _ _ _ _ c.in_err-send-pair.ensures (e.1 ∙ ap (λ x. Err x) e.2)
+    let next = names_next c.args.names.now c.loop-name.name-index c.name-item.result c.as_bytes.result.now (omega arith) c.name-item.is c.as_bytes.ensures.value in
+    packet_stop _ _ _ _ _ _ next c.loop-name.invariant _ _ _ _ c.in_err-send_pair.ensures (e.1 ∙ ap (λ x. Err x) e.2)
 
 pub loop-name-preserved : goal.loop-name-preserved
 loop-name-preserved g c =
-    let next = names_next c.args.names.now c.loop-name.name-index c.name-item.result c.as-bytes.result.now (omega arith) c.name-item.is c.as-bytes.ensures.value in
-    packet_more _ _ _ _ _ _ next c.loop-name.invariant _ _ _ c.in_ok-send-pair.ensures
+    let next = names_next c.args.names.now c.loop-name.name-index c.name-item.result c.as_bytes.result.now (omega arith) c.name-item.is c.as_bytes.ensures.value in
+    packet_more _ _ _ _ _ _ next c.loop-name.invariant _ _ _ c.in_ok-send_pair.ensures
 
 pub returns : goal.returns
 returns g c =
-    packet_last _ _ _ _ _ _ (lines_last capability_line c.args.names.now c.loop-name.name-index (omega arith)) c.loop-name.invariant _ _ _ c.send-flush.ensures
+    packet_last _ _ _ _ _ _ (lines_last capability_line c.args.names.now c.loop-name.name-index (omega arith)) c.loop-name.invariant _ _ _ c.send_flush.ensures

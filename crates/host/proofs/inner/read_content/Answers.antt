@@ -7,18 +7,18 @@ use Rattle.host.proofs.inner.read_content.Goals as goal
 pub returns-in_err-read_packet : goal.returns-in_err-read_packet
 returns-in_err-read_packet g c =
     let e = err_from_is_err_and c.from_residual.result c.from_residual.ensures.1 in
-    record { bound = search rules; goes = content_fault _ _ _ _ _ _ _ c.in_err-read-packet.ensures.goes (e.1 ∙ ap (λ x. Err x) e.2) }
+    record { bound = search rules; goes = content_fault _ _ _ _ _ _ _ c.in_err-read_packet.ensures.goes (e.1 ∙ ap (λ x. Err x) e.2) }
 
 pub returns-in-Flush : goal.returns-in-Flush
-returns-in-Flush g c = record { bound = tt; goes = content_works _ _ _ _ _ _ _ c.in_ok-read-packet.ensures.goes (ap content_answer (sym c.in-Flush.is)) }
+returns-in-Flush g c = record { bound = tt; goes = content_works _ _ _ _ _ _ _ c.in_ok-read_packet.ensures.goes (ap content_answer (sym c.in-Flush.is)) }
 
 pub returns-in-Data : goal.returns-in-Data
 returns-in-Data g c =
     record {
-      bound = subst (λ k. payload_length k ≤ 65516) c.in-Data.is c.in_ok-read-packet.ensures.bound;
-      goes = content_works _ _ _ _ _ _ _ c.in_ok-read-packet.ensures.goes (ap content_answer (sym c.in-Data.is));
+      bound = subst (λ k. payload_length k ≤ 65516) c.in-Data.is c.in_ok-read_packet.ensures.bound;
+      goes = content_works _ _ _ _ _ _ _ c.in_ok-read_packet.ensures.goes (ap content_answer (sym c.in-Data.is));
     }
 
 pub returns-in_default : goal.returns-in_default
 returns-in_default g c =
-    record { bound = tt; goes = content_works _ _ _ _ _ _ _ c.in_ok-read-packet.ensures.goes (marker_answer _ c.in_default.not-Flush c.in_default.not-Data) }
+    record { bound = tt; goes = content_works _ _ _ _ _ _ _ c.in_ok-read_packet.ensures.goes (marker_answer _ c.in_default.not-Flush c.in_default.not-Data) }

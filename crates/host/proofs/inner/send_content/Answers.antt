@@ -14,14 +14,14 @@ returns-in_err-send_packet g c =
     let e = err_from_is_err_and c.from_residual.result c.from_residual.ensures.1 in
     let next = parts_next c.args.content.now c.loop-at.at c.min-n.result (omega arith) (omega arith) in
     record {
-      goes = packet_stop _ _ _ _ _ _ next c.loop-at.invariant.1 _ _ _ _ c.in_err-send-packet.ensures (e.1 ∙ ap (λ x. Err x) e.2);
+      goes = packet_stop _ _ _ _ _ _ next c.loop-at.invariant.1 _ _ _ _ c.in_err-send_packet.ensures (e.1 ∙ ap (λ x. Err x) e.2);
       law = parted _;
     }
 
 pub loop-at-preserved : goal.loop-at-preserved
 loop-at-preserved g c =
     let next = parts_next c.args.content.now c.loop-at.at c.min-n.result (omega arith) (omega arith) in
-    (omega arith, packet_more _ _ _ _ _ _ next c.loop-at.invariant.1 _ _ _ c.in_ok-send-packet.ensures)
+    (omega arith, packet_more _ _ _ _ _ _ next c.loop-at.invariant.1 _ _ _ c.in_ok-send_packet.ensures)
 
 pub returns : goal.returns
 returns g c =

@@ -20,12 +20,12 @@ pub returns-in_err-send_line : goal.returns-in_err-send_line
 returns-in_err-send_line g c =
     let e = err_from_is_err_and c.from_residual.result c.from_residual.ensures.1 in
     let next = lines_more (λ x. line_pkt x.now) c.args.lines.now c.loop-line.line-index (record { ref_ptr = (0, 0); now = [] }) (omega arith) in
-    packet_stop _ _ _ _ _ _ next c.loop-line.invariant _ _ _ _ c.in_err-send-line.ensures (e.1 ∙ ap (λ x. Err x) e.2)
+    packet_stop _ _ _ _ _ _ next c.loop-line.invariant _ _ _ _ c.in_err-send_line.ensures (e.1 ∙ ap (λ x. Err x) e.2)
 
 pub loop-line-preserved : goal.loop-line-preserved
 loop-line-preserved g c =
     let next = lines_more (λ x. line_pkt x.now) c.args.lines.now c.loop-line.line-index (record { ref_ptr = (0, 0); now = [] }) (omega arith) in
-    packet_more _ _ _ _ _ _ next c.loop-line.invariant _ _ _ c.in_ok-send-line.ensures
+    packet_more _ _ _ _ _ _ next c.loop-line.invariant _ _ _ c.in_ok-send_line.ensures
 
 pub returns : goal.returns
 returns g c =

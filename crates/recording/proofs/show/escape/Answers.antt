@@ -12,7 +12,7 @@ returns-in_err-push_byte c =
 pub loop-b-preserved : goal.loop-b-preserved
 loop-b-preserved c =
     let e = escaped_more c.args.bytes.now c.loop-b.b-index (omega arith) in
-    let p = c.in_ok-push-byte.ensures in
+    let p = c.in_ok-push_byte.ensures in
     cc
 
 pub returns : goal.returns

@@ -13,7 +13,7 @@ four xs ys zs a b c d h l p q r s =
 
 pub returns : goal.returns
 returns c =
-    let x = pushed (92 ∷ 120 ∷ []) refl c.in_ok-push-str.was c.push_str.ensures.bytes in
+    let x = pushed (92 ∷ 120 ∷ []) refl c.in_ok-push_str.was c.push_str.ensures.bytes in
     let xh = pushed (encode c.hex_char.result) x c.in_ok-push.was c.push.ensures.bytes in
     let xhl = pushed (encode c.hex_char-2.result) xh c.in_ok-push-2.was c.push-2.ensures.bytes in
     let high = c.push.ensures.ascii c.hex_char.ensures.ascii in

@@ -7,7 +7,7 @@ use Rattle.scripts.proofs.script.is_of.Goals as goal
 
 pub returns-in-Some : goal.returns-in-Some
 returns-in-Some c =
-    same_from_decides c.eq.result (bytes_eq c.bytes-of.result.now c.args.command.now)
-    (slice_eq-Decides Decides-eqb _ _ _ c.eq.ensures) (bytes_eq-Decides c.bytes-of.result.now c.args.command.now)
-    ∙ ap (λ bs. bytes_eq bs c.args.command.now) c.bytes-of.ensures
+    same_from_decides c.eq.result (bytes_eq c.bytes_of.result.now c.args.command.now)
+    (slice_eq-Decides Decides-eqb _ _ _ c.eq.ensures) (bytes_eq-Decides c.bytes_of.result.now c.args.command.now)
+    ∙ ap (λ bs. bytes_eq bs c.args.command.now) c.bytes_of.ensures
     ∙ ap (place_of c.args.bytes.now c.args.command.now) (sym c.in-Some.is)

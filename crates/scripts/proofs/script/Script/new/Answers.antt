@@ -4,4 +4,4 @@ use Rattle.scripts.proofs.script.Script.new.Goals as goal
 
 pub returns : goal.returns
 returns c =
-    record { value = made c.args.bytes.now c.args.rows.now _ c.placed-unused.result c.placed-unused.ensures (omega arith) c.if-not-are-within.ensures; rows = (refl, c.placed-unused.ensures) }
+    record { value = made c.args.bytes.now c.args.rows.now _ c.placed-unused.result c.placed-unused.ensures (omega arith) c.if-not-are_within.ensures; rows = (refl, c.placed-unused.ensures) }

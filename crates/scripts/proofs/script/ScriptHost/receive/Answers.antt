@@ -14,7 +14,7 @@ returns-then-n-eq0 c =
     record {
       goes =
           received_end (world_of c.args.self.now) c.args.process (pipe c.args.self.now.bytes.now c.in-Some.row) c.in-Some.ensures.meaning
-          c.args.area.now (omega arith) (sym c.bytes-of-waiting.ensures ∙ nil_from_length c.bytes-of-waiting.result.now (omega arith));
+          c.args.area.now (omega arith) (sym c.bytes_of-waiting.ensures ∙ nil_from_length c.bytes_of-waiting.result.now (omega arith));
       logs = λ l e. absurd (no_log l e);
       keeps = (refl, refl);
     }
@@ -22,12 +22,12 @@ returns-then-n-eq0 c =
 pub overflow-add-plays : goal.overflow-add-plays
 overflow-add-plays c =
     let b =
-    part_bounds c.args.self.now.bytes.now c.in-Some.row.plays c.min-n.result c.bytes-of-waiting.result.now c.bytes-of-waiting.ensures (omega arith) (omega arith) in
+    part_bounds c.args.self.now.bytes.now c.in-Some.row.plays c.min-n.result c.bytes_of-waiting.result.now c.bytes_of-waiting.ensures (omega arith) (omega arith) in
     omega (arith, b.0)
 
 pub overflow-sub-plays : goal.overflow-sub-plays
 overflow-sub-plays c =
-    (part_bounds c.args.self.now.bytes.now c.in-Some.row.plays c.min-n.result c.bytes-of-waiting.result.now c.bytes-of-waiting.ensures (omega arith) (omega arith)).1
+    (part_bounds c.args.self.now.bytes.now c.in-Some.row.plays c.min-n.result c.bytes_of-waiting.result.now c.bytes_of-waiting.ensures (omega arith) (omega arith)).1
 
 pub returns : goal.returns
 returns c =
@@ -35,8 +35,8 @@ returns c =
     let bytes = c.args.self.now.bytes.now in
     let w = world_of c.args.self.now in
     let n = c.min-n.result in
-    let waiting = c.bytes-of-waiting.result.now in
-    let is = c.bytes-of-waiting.ensures in
+    let waiting = c.bytes_of-waiting.result.now in
+    let is = c.bytes_of-waiting.ensures in
     let b = part_bounds bytes row.plays n waiting is (omega arith) (omega arith) in
     record {
       goes =
@@ -45,7 +45,7 @@ returns c =
           (c.play.ensures.value
           ∙ ap (λ ws. with_process w c.args.process (live (record { waiting = ws; ending = row.ending; allowance = row.allowance; snag = row.snag; reply = λ _ _. [] })))
           (part_rest bytes row.plays.at row.plays.len n b.1))
-          (copied waiting c.args.area.now c.copy-from-slice.new.self n c.copy-from-slice.ensures.after ∙ ap (λ l. take n l ++ drop n c.args.area.now) is);
+          (copied waiting c.args.area.now c.copy_from_slice.new.self n c.copy_from_slice.ensures.after ∙ ap (λ l. take n l ++ drop n c.args.area.now) is);
       logs = λ l e. absurd (no_log l e);
       keeps = c.play.ensures.keeps;
     }
