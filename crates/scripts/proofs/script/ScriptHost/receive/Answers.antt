@@ -19,14 +19,14 @@ returns-then-n-eq0 c =
       keeps = (refl, refl);
     }
 
-pub overflow-add-plays : goal.overflow-add-plays
-overflow-add-plays c =
+pub overflow_add-plays : goal.overflow_add-plays
+overflow_add-plays c =
     let b =
     part_bounds c.args.self.now.bytes.now c.in-Some.row.plays c.min-n.result c.bytes_of-waiting.result.now c.bytes_of-waiting.ensures (omega arith) (omega arith) in
     omega (arith, b.0)
 
-pub overflow-sub-plays : goal.overflow-sub-plays
-overflow-sub-plays c =
+pub overflow_sub-plays : goal.overflow_sub-plays
+overflow_sub-plays c =
     (part_bounds c.args.self.now.bytes.now c.in-Some.row.plays c.min-n.result c.bytes_of-waiting.result.now c.bytes_of-waiting.ensures (omega arith) (omega arith)).1
 
 pub returns : goal.returns
