@@ -1,5 +1,6 @@
 //! The client's handshake with a process.
 #![tactic(auto)]
+
 pub mod agreement;
 pub mod inner;
 mod parts;
