@@ -1,5 +1,6 @@
 //! The client of one process: the handshake, an exchange, a listing, a result.
 #![tactic(auto)]
+
 pub mod client;
 pub mod greeting;
 pub mod inner;

@@ -11,12 +11,12 @@ returns-in_err-n g c =
       goes = piece_fault _ _ c.args.work.now c.args.status.now _ _ _ _ c.in_err-n.ensures.goes (e.1 ∙ ap (λ x. Err x) e.2);
     }
 
-pub returns-in_err-read_status : goal.returns-in_err-read_status
-returns-in_err-read_status g c =
-    let e = err_from_is_err_and c.from_residual-in_err-read_status.result c.from_residual-in_err-read_status.ensures.1 in
+pub returns-in_err-read_status-in-None : goal.returns-in_err-read_status-in-None
+returns-in_err-read_status-in-None g c =
+    let e = err_from_is_err_and c.from_residual-in_err-read_status-in-None.result c.from_residual-in_err-read_status-in-None.ensures.1 in
     record {
       bound = search rules;
-      goes = piece_untold _ _ c.args.work.now c.args.status.now _ _ _ c.in_ok-n.ensures.goes c.in-None.is _ _ _ _ _ c.in_err-read_status.ensures (e.1 ∙ ap (λ x. Err x) e.2);
+      goes = piece_untold _ _ c.args.work.now c.args.status.now _ _ _ c.in_ok-n.ensures.goes c.in-None.is _ _ _ _ _ c.in_err-read_status-in-None.ensures (e.1 ∙ ap (λ x. Err x) e.2);
     }
 
 pub returns-in-Some : goal.returns-in-Some
@@ -26,9 +26,9 @@ returns-in-Some g c =
       goes = piece_payload _ _ c.args.work.now c.args.status.now _ _ _ c.in_ok-n.ensures.goes _ c.in-Some.is;
     }
 
-pub returns-in_ok-read_status : goal.returns-in_ok-read_status
-returns-in_ok-read_status g c =
+pub returns-in_ok-read_status-in-None : goal.returns-in_ok-read_status-in-None
+returns-in_ok-read_status-in-None g c =
     record {
       bound = search rules;
-      goes = piece_final _ _ c.args.work.now c.args.status.now _ _ _ c.in_ok-n.ensures.goes c.in-None.is _ _ _ _ c.in_ok-read_status.ensures;
+      goes = piece_final _ _ c.args.work.now c.args.status.now _ _ _ c.in_ok-n.ensures.goes c.in-None.is _ _ _ _ c.in_ok-read_status-in-None.ensures;
     }

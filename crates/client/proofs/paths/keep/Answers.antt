@@ -21,7 +21,7 @@ returns-then-is_ok c =
 pub returns : goal.returns
 returns c =
     elim c.else-not-kept.branch [
-      | goal.else-not-kept-via-then-not-kept+then-len-text+else-is-ok w ↦
+      | goal.else-not-kept-via-then-not-kept+then-len-text+else-is_ok w ↦
           record {
             lender = ap (λ x. x.rows.ghost_name) w.rows-is ∙ w.push.ensures.lender;
             keeps =
