@@ -22,7 +22,7 @@ pub(crate) fn split_lines(heap: Global, text: &[u8]) -> Result<Vec<&[u8]>, Alloc
 
 /// The items of a list that is parted by commas; `-` is an empty list.
 pub(crate) fn items(heap: Global, text: &[u8]) -> Result<Vec<&[u8]>, AllocError> {
-    if text == b"-" {
+    if text == b"-".as_slice() {
         return Ok(Vec::new(heap));
     }
     parts(heap, text, b',')
