@@ -14,7 +14,7 @@ use Rattle.process.specs.Given.{ReadsAs}
 use Rattle.process.specs.Statuses.{read_status, first}
 use Rattle.client.specs.Paths.{paths_named, fitting, most, Stored}
 use Rattle.client.specs.Requests.{as_first, first_status, status_then}
-use Rattle.client.specs.Listings.{list_request, read_lines, lines_then, listing, named_in, Stores, ReadsPaths, Lists}
+use Rattle.client.specs.Listings.{list_request, read_lines, lines_then, named_in, Stores, ReadsPaths, Lists}
 use Rattle.process.proofs.Passes.{AllSent, NoneGiven, send_all_passes, Told, told_by_talk}
 use Rattle.process.proofs.Tellings.{NoStatusPassed}
 use Rattle.client.proofs.Keeps.{keeping_none}

@@ -1,5 +1,6 @@
 //! `exam [FILE..]` prints the packets of recorded exchanges and plays sheets; `-`, or no file, is standard input.
 #![tactic(auto)]
+
 mod asking;
 mod cast;
 mod lines;

@@ -1,16 +1,15 @@
 -- Lines of text that are judged, and the loop that reads names.
-use Rattle.std.proofs.Common.{◌≡◌, ℕ, ◌-◌, List, [], ◌∷◌, ◌++◌, length, take, Some, None, Ok, Err, Option, Result, sym, refl, ap, ◌∙◌, subst, arith}
+use Rattle.std.proofs.Common.{◌≡◌, ℕ, ◌-◌, List, [], ◌++◌, take, Some, None, Ok, Err, Option, Result, sym, refl, ap, ◌∙◌, subst, arith}
 use Rattle.std.specs.Option.{option_map}
 use Rattle.slices.specs.Answers.{told}
 use Rattle.slices.specs.declared.name.Name.{Name}
 use Rattle.host.specs.declared.fault.LineFault.{LineFault}
 use Rattle.host.specs.Talk.{Event, areas, Wire, Got, got, then, read_text, shown_part, Sight, Talks, Works}
 use Rattle.host.proofs.Talking.{talk_none, talk_then, talk_stop, talk_is}
-use Rattle.process.specs.declared.capabilities.Capabilities.{Capabilities}
 use Rattle.handshake.specs.declared.protocol.Protocol.{Protocol}
 use Rattle.handshake.specs.declared.protocol.Refusal.{Refusal}
 use Rattle.handshake.specs.declared.protocol.Refusal.TheVariants.{Line, Protocol as Wrong}
-use Rattle.process.specs.Gather.{Turn, goes, stops}
+use Rattle.process.specs.Gather.{goes, stops}
 use Rattle.handshake.specs.Handshakes.{protocol_number, with_line, if_right, read_judged, names_turn, names_step, read_names, heard}
 use Rattle.process.proofs.Gathers.{Left, left_first, left_fault, left_stop, left_more, text_falls}
 

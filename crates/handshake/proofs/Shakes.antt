@@ -1,18 +1,16 @@
 -- What a handshake means, from the packets that pass.
 use Rattle.std.proofs.Common.{◌≡◌, ℕ, ◌+◌, ◌≤◌, true, ◌&&◌, List, [], ◌∷◌, ◌++◌, map, length, Some, None, Ok, Err, Option, Result, sym, refl, ap, ◌∙◌, subst, arith}
 use Rattle.std.proofs.lemmas.List.{append_assoc, append-nil}
-use Rattle.std.proofs.lemmas.Bool.{and_parts}
 use Rattle.std.proofs.lemmas.Bool.Decides.{same_from_decides}
 use Rattle.slices.specs.declared.name.Name.{Name}
-use Rattle.packetline.specs.Packets.{Pkt, flush, line, Decoded, decode, packets, flush_one, flushes_of}
+use Rattle.packetline.specs.Packets.{Pkt, flush, line, Decoded, decode, packets, flushes_of}
 use Rattle.packetline.specs.Text.{utf8, trim_end}
 use Rattle.host.specs.declared.fault.LineFault.{LineFault}
-use Rattle.host.specs.Talk.{bytes_sent, bytes_given, areas, Areas, Wire, Got, got, then, send_all, read_text, Sight, Talks, Works}
-use Rattle.process.specs.Gather.{Turn, goes, stops}
+use Rattle.host.specs.Talk.{bytes_sent, bytes_given, Wire, Got, got, then, send_all, read_text, Sight, Works}
 use Rattle.process.specs.Given.{ReadsAs, all_text, WorksBy}
 use Rattle.process.specs.Masks.{holds}
 use Rattle.handshake.specs.Handshakes.{hello, desired, welcomed, chosen, ended, with_line, mask_then, mask_after, if_right, read_judged, names_turn, names_step, read_names, Shaken, shaken, names_of, asks, flush_then, version_then, welcome_then, handshake, NamedAt, Agreed, HandshakeLaw}
-use Rattle.process.proofs.Passes.{Passes, passes_then, passes_so, passes_got, AllSent, NoneGiven, send_all_passes, NoFlush, AText, text_passes, quiet_none, Turns, gather_passes, Told, told_by_talk}
+use Rattle.process.proofs.Passes.{Passes, passes_then, passes_so, passes_got, send_all_passes, NoFlush, AText, text_passes, quiet_none, Turns, gather_passes, Told, told_by_talk}
 use Rattle.process.proofs.Tellings.{map_push, text_push, text_silent, flushes_append, lines_flushes, lines_same}
 use Rattle.process.proofs.Masks.{masks_same}
 use Rattle.handshake.proofs.Naming.{mask_means}

@@ -1,5 +1,5 @@
 -- The four functions of a host, by what they answer and leave, and the log of what was asked of it.
-use Rattle.std.specs.Prelude.{◌≡◌, ℕ, ◌-◌, ◌<◌, ◌≤◌, Bool, true, false, cond, ◌&&◌, List, [], ◌∷◌, ◌++◌, length, take, Some, None, Ok, Err, Option, Result, nat_le, nat_lt, slice_set}
+use Rattle.std.specs.Prelude.{◌≡◌, ℕ, ◌-◌, ◌<◌, ◌≤◌, Bool, true, false, cond, ◌&&◌, List, [], ◌∷◌, ◌++◌, length, take, Some, Ok, Err, Option, Result, nat_le, nat_lt, slice_set}
 use Rattle.packetline.specs.Packets.{over}
 use Rattle.host.specs.declared.fault.NotStarted.{NotStarted}
 use Rattle.host.specs.declared.fault.Fault.{Fault}

@@ -1,5 +1,5 @@
 -- A whole byte string, packet by packet.
-use Rattle.std.proofs.Common.{◌≡◌, ℕ, zero, suc, ◌+◌, ◌-◌, ◌<◌, ◌≤◌, Bool, true, false, cond, List, [], ◌∷◌, ◌++◌, length, take, drop, Some, sym, refl, ap, ◌∙◌, subst, add_assoc, zero-add, arith}
+use Rattle.std.proofs.Common.{◌≡◌, ℕ, zero, suc, ◌+◌, ◌-◌, ◌<◌, ◌≤◌, true, List, [], ◌∷◌, ◌++◌, length, drop, Some, sym, refl, ap, ◌∙◌, subst, add_assoc, zero-add, arith}
 use Rattle.std.proofs.lemmas.List.{length-append, append_assoc, append-nil, drop_at}
 use Rattle.std.proofs.lemmas.Bool.{and_parts}
 use Rattle.packetline.specs.declared.decode.Tally.{Tally}

@@ -1,12 +1,12 @@
 -- What is read as a packet is exactly what can be sent.
-use Rattle.std.proofs.Common.{◌≡◌, ℕ, ◌+◌, ◌-◌, ◌<◌, ◌≤◌, Bool, true, false, cond, ◌&&◌, eqb, leb, List, [], ◌∷◌, ◌++◌, map, length, get_or, take, drop, Some, None, Ok, Err, Option, Result, sym, refl, ap, ◌∙◌, subst, ⊎_elim, arith, take-append-drop}
-use Rattle.std.proofs.lemmas.List.{length-take-le, length-append, length-drop, append-nil, take-take, drop-take, take_at, drop_at}
-use Rattle.std.proofs.lemmas.Bool.{cases_lt, le-leb, leb-true, and_from, and_parts, cond-true}
+use Rattle.std.proofs.Common.{◌≡◌, ℕ, ◌+◌, ◌<◌, ◌≤◌, Bool, true, false, cond, leb, List, [], ◌∷◌, ◌++◌, map, length, take, drop, Some, None, Ok, Err, Option, Result, sym, refl, ap, ◌∙◌, ⊎_elim, arith, take-append-drop}
+use Rattle.std.proofs.lemmas.List.{length-take-le, length-append, length-drop, take-take, drop-take, take_at, drop_at}
+use Rattle.std.proofs.lemmas.Bool.{cases_lt, le-leb, leb-true, and_from, and_parts}
 use Rattle.std.proofs.lemmas.Bool.Decides.{nat_tests}
 use Rattle.packetline.specs.declared.packet.Packet.{Packet}
 use Rattle.packetline.specs.declared.packet.Packet.TheVariants.{Flush, Delimiter, ResponseEnd, Data}
-use Rattle.packetline.specs.Packets.{number, announced, heading, header, digits, Pkt, flush, delimiter, response_end, line, framable, sendable, packet, payload_length, with_payload, Front, whole, bad, short, fronted, front, lower, lowered, ReadsSent}
-use Rattle.packetline.proofs.Digits.{digits_read, digits_spell, digits_lower, number_small}
+use Rattle.packetline.specs.Packets.{number, announced, heading, header, digits, Pkt, flush, delimiter, response_end, line, sendable, packet, payload_length, with_payload, whole, bad, short, fronted, front, lower, lowered, ReadsSent}
+use Rattle.packetline.proofs.Digits.{digits_read, digits_spell, digits_lower}
 use Rattle.packetline.proofs.Fronts.{front_none, front_some, front_whole}
 
 -- the length that a header gives of a packet

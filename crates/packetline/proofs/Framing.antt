@@ -1,9 +1,9 @@
 -- A packet that was laid down.
-use Rattle.std.proofs.Common.{◌≡◌, ℕ, ◌≤◌, Bool, true, false, cond, leb, List, ◌++◌, length, take, drop, Ok, Err, Result, sym, refl, ap, ◌∙◌}
+use Rattle.std.proofs.Common.{◌≡◌, ℕ, ◌≤◌, true, leb, List, ◌++◌, length, take, drop, Ok, Result, sym, ap, ◌∙◌}
 use Rattle.std.proofs.lemmas.List.{take_at}
 use Rattle.std.proofs.lemmas.Bool.{le-leb, cond-true}
 use Rattle.packetline.specs.Packets.{Pkt, sendable, packet, whole, front, over}
-use Rattle.packetline.specs.Frames.{framing, Framed}
+use Rattle.packetline.specs.Frames.{Framed}
 use Rattle.packetline.proofs.Exact.{sent_back}
 
 pub framed : (p : Pkt) (area area' : List ℕ) (n : ℕ) → sendable p ≡ true → length (packet p) ≤ length area → n ≡ length (packet p)

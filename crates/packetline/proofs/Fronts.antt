@@ -1,8 +1,8 @@
 -- What stands first in a byte string, case by case.
-use Rattle.std.proofs.Common.{◌≡◌, ℕ, ◌+◌, ◌<◌, ◌≤◌, Bool, true, false, cond, leb, List, length, take, drop, Ok, Err, Result, sym, refl, ap, ◌∙◌, arith}
+use Rattle.std.proofs.Common.{◌≡◌, ℕ, ◌+◌, ◌<◌, ◌≤◌, leb, List, length, take, drop, Ok, Err, ap, ◌∙◌, arith}
 use Rattle.std.proofs.lemmas.Bool.{le-leb, lt-leb, cond-true, cond-false}
 use Rattle.packetline.specs.declared.packet.Packet.{Packet}
-use Rattle.packetline.specs.Packets.{header, payload_length, with_payload, Front, whole, bad, short, fronted, front}
+use Rattle.packetline.specs.Packets.{header, payload_length, with_payload, whole, bad, short, fronted, front}
 
 module _ (bytes : List ℕ) where
   pub front_none : length bytes < 4 → front bytes ≡ short

@@ -7,7 +7,7 @@ use Rattle.packetline.specs.declared.decode.Stream.TheVariants.{Complete, Incomp
 use Rattle.packetline.specs.declared.decode.Tally.{Tally}
 use Rattle.packetline.specs.declared.packet.PacketLineRef.{PacketLineRef}
 use Rattle.packetline.specs.declared.packet.PacketLineRef.TheVariants.{Data, Flush, Delimiter, ResponseEnd}
-use Rattle.packetline.specs.Packets.{Pkt, flush, delimiter, response_end, line, Front, whole, bad, short, fronted, front, decode, flushes}
+use Rattle.packetline.specs.Packets.{Pkt, flush, delimiter, response_end, line, Front, whole, short, fronted, front, decode, flushes}
 
 abbrev pub decode_number : Error → ℕ
 decode_number BadHeader = 20

@@ -1,12 +1,12 @@
 -- Reading on, as a loop does it.
-use Rattle.std.proofs.Common.{◌≡◌, ℕ, zero, suc, ◌<◌, ◌≤◌, List, [], ◌∷◌, ◌++◌, length, Some, None, Ok, Err, Option, Result, sym, refl, ap, ◌∙◌, subst, arith}
+use Rattle.std.proofs.Common.{◌≡◌, ℕ, zero, suc, ◌<◌, ◌≤◌, List, [], ◌++◌, length, Some, None, Ok, Err, Option, Result, sym, refl, ap, ◌∙◌, subst, arith}
 use Rattle.std.proofs.lemmas.List.{append_assoc, append-nil}
 use Rattle.packetline.specs.Packets.{Pkt, flush, delimiter, response_end, line, Front, whole, bad, short, front}
 use Rattle.packetline.specs.Text.{text_of}
 use Rattle.packetline.proofs.Decoding.{shorter}
 use Rattle.host.specs.declared.fault.LineFault.{LineFault}
 use Rattle.host.specs.Worlds.{Process, gone, live, process, waiting_of, waiting_now, waits}
-use Rattle.host.specs.Talk.{Event, Areas, lay, Later, Wire, wire, Got, got, lost, then, ends, hear, read, wanted, read_content, texted, text_in, read_text, Sight, Acted, Talks}
+use Rattle.host.specs.Talk.{Event, Areas, lay, Wire, wire, Got, got, lost, then, ends, hear, read, wanted, read_content, texted, text_in, read_text, Sight, Acted, Talks}
 use Rattle.host.proofs.Logging.{grows_none, grows_then}
 use Rattle.host.proofs.Takes.{with_same}
 use Rattle.host.proofs.Talking.{lay_append, acted_append, talk_then, talk_stop}

@@ -1,9 +1,9 @@
 -- What passes in a talk, as packets.
-use Rattle.std.proofs.Common.{◌≡◌, ℕ, zero, suc, ◌+◌, ◌<◌, ◌≤◌, Bool, true, false, cond, leb, List, [], ◌∷◌, ◌++◌, length, take, drop, Some, None, Ok, Err, Option, Result, sym, refl, ap, ◌∙◌, subst, arith}
-use Rattle.std.proofs.lemmas.List.{append_assoc, append-nil, length-append, take-append-drop}
+use Rattle.std.proofs.Common.{◌≡◌, ℕ, zero, suc, ◌+◌, ◌<◌, Bool, true, false, cond, leb, List, [], ◌∷◌, ◌++◌, length, Some, None, Ok, Err, Option, Result, sym, refl, ap, ◌∙◌, subst, arith}
+use Rattle.std.proofs.lemmas.List.{append_assoc, append-nil, take-append-drop}
 use Rattle.std.proofs.lemmas.Bool.{cond_both}
 use Rattle.packetline.specs.declared.packet.Packet.{Packet}
-use Rattle.packetline.specs.Packets.{header, payload_length, Pkt, flush, delimiter, response_end, line, packet, packets, lowered, Front, whole, bad, short, fronted, front, Decoded, and_more, decode, flush_one, flushes_of}
+use Rattle.packetline.specs.Packets.{header, payload_length, Pkt, flush, delimiter, response_end, line, packet, packets, Front, whole, bad, short, fronted, front, Decoded, and_more, decode, flush_one, flushes_of}
 use Rattle.packetline.specs.Text.{utf8, trim_end, text_of}
 use Rattle.packetline.proofs.Decoding.{decode_more, shorter}
 use Rattle.packetline.proofs.Exact.{reads_sent}
@@ -11,7 +11,7 @@ use Rattle.host.specs.declared.fault.Fault.{Fault}
 use Rattle.host.specs.declared.fault.LineFault.{LineFault}
 use Rattle.host.specs.Worlds.{waiting_of, process}
 use Rattle.host.specs.Acts.{refusal_of}
-use Rattle.host.specs.Talk.{Event, took, refused, gave, noted, bytes_sent, bytes_given, Areas, Wire, wire, Got, got, lost, then, ends, sent_by, send, send_all, hear, read, wanted, read_content, texted, text_in, read_text, Sight, Talks}
+use Rattle.host.specs.Talk.{Event, noted, bytes_sent, bytes_given, Areas, Wire, wire, Got, got, lost, then, ends, sent_by, send, send_all, hear, read, wanted, read_content, texted, text_in, read_text, Sight, Talks}
 use Rattle.process.specs.Gather.{Turn, goes, stops, turned, gather_in, gather}
 use Rattle.process.specs.Given.{ReadsAs}
 

@@ -1,8 +1,8 @@
 -- The loop that reads a status.
-use Rattle.std.proofs.Common.{◌≡◌, ℕ, ◌-◌, List, [], ◌∷◌, ◌++◌, length, take, Some, None, Ok, Err, Option, Result, sym, refl, ap, ◌∙◌, subst, arith}
+use Rattle.std.proofs.Common.{◌≡◌, ℕ, ◌-◌, List, [], ◌++◌, take, Some, None, Ok, Err, Option, Result, sym, refl, ap, ◌∙◌, subst, arith}
 use Rattle.packetline.specs.Lines.{kind_of}
 use Rattle.host.specs.declared.fault.LineFault.{LineFault}
-use Rattle.host.specs.Talk.{Event, Areas, areas, lay, Wire, Got, read_text, shown_part, Sight, Acted, Talks, Works}
+use Rattle.host.specs.Talk.{Event, areas, lay, read_text, shown_part, Sight, Acted, Works}
 use Rattle.host.proofs.Talking.{talk_is}
 use Rattle.process.specs.declared.status.Status.{Status}
 use Rattle.process.specs.Given.{TalksBy}

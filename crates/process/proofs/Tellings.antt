@@ -1,20 +1,20 @@
 -- What a status reading tells.
-use Rattle.std.proofs.Common.{◌≡◌, ℕ, ◌+◌, true, ◌&&◌, List, [], ◌∷◌, ◌++◌, map, length, Some, None, Ok, Err, codes, Option, Result, sym, refl, ap, ◌∙◌, subst, arith}
+use Rattle.std.proofs.Common.{◌≡◌, ℕ, ◌+◌, true, ◌&&◌, List, [], ◌∷◌, ◌++◌, map, Some, None, Ok, Err, codes, Option, Result, sym, refl, ap, ◌∙◌, subst, arith}
 use Rattle.std.specs.List.{AllByRecursion as All}
 use Rattle.std.proofs.ByRecursion.{All-push}
-use Rattle.std.proofs.lemmas.List.{append_assoc, append-nil}
+use Rattle.std.proofs.lemmas.List.{append_assoc}
 use Rattle.std.proofs.lemmas.Bool.{and_parts}
-use Rattle.packetline.specs.Packets.{Pkt, flush, delimiter, response_end, line, Decoded, decode, packets, flush_one, flushes_of}
+use Rattle.packetline.specs.Packets.{Pkt, flush, line, Decoded, packets, flushes_of}
 use Rattle.packetline.specs.Lines.{kind_of}
 use Rattle.packetline.specs.Text.{utf8, trim_end}
 use Rattle.host.specs.declared.fault.LineFault.{LineFault}
-use Rattle.host.specs.Talk.{bytes_sent, bytes_given, Areas, Wire, Got, read_text, Sight, Talks}
+use Rattle.host.specs.Talk.{bytes_sent, bytes_given, Areas, Wire, read_text, Sight, Talks}
 use Rattle.process.specs.declared.status.Status.{Status}
 use Rattle.process.specs.declared.status.Status.TheVariants.{Previous, Unset, Named}
 use Rattle.process.specs.Given.{ReadsAs, all_text, TalksBy}
-use Rattle.process.specs.Statuses.{named, status_in, told_by, after_lines, status_of, NoStatus, Tells, noted_by, status_step, read_status, StatusLines, StatusLaw}
+use Rattle.process.specs.Statuses.{status_in, told_by, after_lines, status_of, NoStatus, Tells, noted_by, status_step, read_status, StatusLines, StatusLaw}
 use Rattle.process.proofs.LineKinds.{StatusPart, status_part}
-use Rattle.process.proofs.Passes.{Passes, AText, NoFlush, Turns, Quiet, quiet_none, quiet_noted, text_passes, gather_passes, Told, told_by_talk}
+use Rattle.process.proofs.Passes.{Passes, AText, Turns, Quiet, quiet_none, quiet_noted, text_passes, gather_passes, Told, told_by_talk}
 
 -- Lists of lines
 

@@ -6,7 +6,7 @@ use Rattle.packetline.specs.Packets.{over}
 use Rattle.host.specs.declared.fault.Fault.{Fault}
 use Rattle.host.specs.declared.fault.Fault.TheVariants.{Broken}
 use Rattle.host.specs.Faults.{snag_fault}
-use Rattle.host.specs.Worlds.{Reply, Pipe, Process, gone, live, World, process, with_process, waiting_of, stop_of, waits, less, taken}
+use Rattle.host.specs.Worlds.{Reply, Pipe, Process, gone, live, World, process, with_process, waiting_of, stop_of, less}
 use Rattle.host.specs.Acts.{Received, Sent, Act, Log, refusal_of, sent_to, sent, some_wait}
 
 -- where no log is kept none has grown

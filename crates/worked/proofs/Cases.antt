@@ -1,5 +1,5 @@
 -- Each case, computed.
-use Rattle.std.proofs.Common.{◌≡◌, ℕ, ◌+◌, true, false, ◌&&◌, leb, List, ◌++◌, length, take, refl, ap, ◌∙◌}
+use Rattle.std.proofs.Common.{◌+◌, ◌&&◌, leb, refl, ap}
 use Rattle.packetline.specs.Packets.{digits}
 use Rattle.packetline.specs.Text.{is_number}
 use Rattle.worked.specs.Worked.{Worked}

@@ -1,5 +1,5 @@
 -- The worked cases, one table over the definitions.
-use Rattle.std.specs.Prelude.{◌≡◌, ℕ, true, false, List, length, take, Some, None, Ok, Err, codes}
+use Rattle.std.specs.Prelude.{◌≡◌, ℕ, true, false, List, length, take, Some, None, Err, codes}
 use Rattle.packetline.specs.Packets.{header, line, framable, packet, line_pkt}
 use Rattle.packetline.specs.Text.{number_of}
 use Rattle.packetline.specs.Metadata.{pair_of}

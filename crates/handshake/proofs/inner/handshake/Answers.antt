@@ -3,7 +3,7 @@ use Rattle.std.proofs.lemmas.Result.{err_from_is_err_and}
 use Rattle.host.specs.Talk.{got}
 use Rattle.slices.specs.Names.{name_bytes}
 use Rattle.process.specs.declared.capabilities.Capabilities.{Capabilities}
-use Rattle.handshake.specs.Handshakes.{ended, heard, shaken, shaken_by, names_of, asks, flush_then, version_then, welcome_then, if_right}
+use Rattle.handshake.specs.Handshakes.{heard, shaken, shaken_by, names_of, asks, flush_then, version_then, welcome_then}
 use Rattle.handshake.proofs.NamesLoop.{refused_then, right_then, works_then, works_stop, works_is, works_got}
 use Rattle.handshake.proofs.Shakes.{handshake_works}
 use Rattle.handshake.proofs.inner.handshake.Goals as goal

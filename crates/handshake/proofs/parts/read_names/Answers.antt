@@ -1,4 +1,4 @@
-use Rattle.std.proofs.Common.{[], Ok, Err, sym, refl, ap, ◌∙◌, arith, rules}
+use Rattle.std.proofs.Common.{[], Err, refl, ap, ◌∙◌, arith, rules}
 use Rattle.std.proofs.lemmas.Result.{err_from_is_err_and}
 use Rattle.process.proofs.Gathers.{text_falls}
 use Rattle.handshake.proofs.NamesLoop.{names_first, names_fault, names_wrong, names_more, names_end}

@@ -1,4 +1,4 @@
-use Rattle.std.proofs.Common.{◌≡◌, ◌+◌, ◌-◌, length, sym, ap, ◌∙◌, subst, add-zero, arith}
+use Rattle.std.proofs.Common.{◌+◌, ◌-◌, length, sym, ap, ◌∙◌, subst, add-zero, arith}
 use Rattle.packetline.specs.Packets.{flush_one}
 use Rattle.packetline.specs.Reads.{pkt}
 use Rattle.packetline.proofs.Decoding.{SoFar, at_start, next_more, next_fits, rest_fits, at_end, decodes_sent, no_flush}

@@ -1,6 +1,6 @@
-use Rattle.std.proofs.Common.{◌≡◌, ◌≤◌, [], Ok, Err, sym, refl, ap, ◌∙◌, subst, arith}
+use Rattle.std.proofs.Common.{[], Err, refl, ap, ◌∙◌, arith}
 use Rattle.std.proofs.lemmas.Result.{err_from_is_err_and}
-use Rattle.host.specs.Talk.{areas, read_text}
+use Rattle.host.specs.Talk.{read_text}
 use Rattle.process.specs.Statuses.{status_step}
 use Rattle.process.proofs.Gathers.{left_first, text_falls}
 use Rattle.process.proofs.StatusLoop.{told_fault, told_flush, told_line}
