@@ -1,6 +1,6 @@
 -- A line by its prefix.
 use Rattle.std.specs.Prelude.{◌≡◌, ℕ, cond, List, [], ◌∷◌, ◌++◌, length, take, drop, Some, None, codes, Option, ◌≢◌}
-use Rattle.std.specs.List.{AllByRecursion as All}
+use Rattle.std.specs.List.{AllByRecursion}
 use Rattle.std.specs.Str.{bytes_eq}
 use Rattle.packetline.specs.declared.line.Line.{Line}
 use Rattle.packetline.specs.declared.line.Line.TheVariants.{Status, Capability, Version, Pathname, Other}
@@ -56,7 +56,7 @@ Plain (status p) = Unit {0}
 Plain (capability p) = Unit {0}
 Plain (version p) = Unit {0}
 Plain (pathname p) = Unit {0}
-Plain (other bs) = All (NotAfter bs) (codes "status=" ∷ codes "capability=" ∷ codes "version=" ∷ codes "pathname=" ∷ [])
+Plain (other bs) = AllByRecursion (NotAfter bs) (codes "status=" ∷ codes "capability=" ∷ codes "version=" ∷ codes "pathname=" ∷ [])
 
 -- a line is read as a kind that writes it, and as another line only where it has no prefix
 pub record IsLine (bs : List ℕ) (k : Kind) : Type 0 where

@@ -5,7 +5,7 @@ use Rattle.std.specs.Borrow.{Bor}
 use Rattle.std.specs.Option.{option_map}
 use Rattle.std.specs.Char.{is_whitespace, is_not_whitespace}
 use Rattle.std.specs.Str.{NoCharPasses, chars}
-use Rattle.std.specs.List.{AllByRecursion as All}
+use Rattle.std.specs.List.{AllByRecursion}
 use Rattle.packetline.specs.declared.metadata.Side.{Side}
 use Rattle.packetline.specs.declared.metadata.Side.TheVariants.{Front, Back}
 use Rattle.packetline.specs.Text.{utf8}
@@ -80,7 +80,7 @@ both p = (p.0.now, p.1.now)
 
 -- no byte is `=`
 abbrev pub Unequal : List ℕ → Type 0
-Unequal bs = All (λ b. b ≢ 61) bs
+Unequal bs = AllByRecursion (λ b. b ≢ 61) bs
 
 -- the key has no `=`, and the pair writes the line; a line that is no pair has none
 abbrev pub IsPair : List ℕ → Option (List ℕ × List ℕ) → Type 0

@@ -1,6 +1,6 @@
 -- What a status reading tells.
 use Rattle.std.proofs.Common.{◌≡◌, ℕ, ◌+◌, true, ◌&&◌, List, [], ◌∷◌, ◌++◌, map, Some, None, Ok, Err, codes, Option, Result, sym, refl, ap, ◌∙◌, subst, arith}
-use Rattle.std.specs.List.{AllByRecursion as All}
+use Rattle.std.specs.List.{AllByRecursion}
 use Rattle.std.proofs.ByRecursion.{All-push}
 use Rattle.std.proofs.lemmas.List.{append_assoc}
 use Rattle.std.proofs.lemmas.Bool.{and_parts}
@@ -61,7 +61,7 @@ not_none (y ∷ xs) x e = let z : ◌≡◌ {A = ℕ} 0 1 = cc in omega arith
 
 tells_push : (ts : List (List ℕ)) (s : Status) (t : List ℕ) (o : Option (List ℕ)) → Tells ts s → StatusPart t o → Tells (ts ++ t ∷ []) (told_by s o)
 tells_push ts s t (Some n) h k = (ts, (n, ([], ap (λ x. ts ++ x ∷ []) k, tt, refl)))
-tells_push ts Previous t None h k = (not_none ts t, subst (λ xs. All NoStatus (xs ++ t ∷ [])) (sym h) (k, tt))
+tells_push ts Previous t None h k = (not_none ts t, subst (λ xs. AllByRecursion NoStatus (xs ++ t ∷ [])) (sym h) (k, tt))
 tells_push ts Unset t None h k = (not_none ts t, All-push NoStatus ts t h.1 k)
 tells_push ts (Named w n) t None h k =
     let before = h.0 in

@@ -1,6 +1,6 @@
 -- A status: what a process says of a command, in lines up to a flush.
 use Rattle.std.specs.Prelude.{◌≡◌, ℕ, Bool, true, false, cond, List, [], ◌∷◌, ◌++◌, map, length, take, Some, None, Ok, codes, Option, Result, ◌≢◌}
-use Rattle.std.specs.List.{AllByRecursion as All}
+use Rattle.std.specs.List.{AllByRecursion}
 use Rattle.std.specs.Str.{bytes_eq}
 use Rattle.packetline.specs.Packets.{Pkt, flush, line, over}
 use Rattle.packetline.specs.Lines.{Kind, status, capability, version, pathname, other, kind_of, NotAfter}
@@ -56,10 +56,10 @@ NoStatus t = NotAfter t (codes "status=")
 -- in words: no line at all is Previous, lines without any status are Unset, and the last `status=` line wins
 abbrev pub Tells : List (List ℕ) → Status → Type 0
 Tells ts Previous = ts ≡ []
-Tells ts Unset = (ts ≢ []) × All NoStatus ts
+Tells ts Unset = (ts ≢ []) × AllByRecursion NoStatus ts
 Tells ts (Named w n) =
     (before : List (List ℕ)) × ((name : List ℕ) × ((after : List (List ℕ))
-    × (ts ≡ before ++ (codes "status=" ++ name) ∷ after) × All NoStatus after × (Named w n ≡ named name)))
+    × (ts ≡ before ++ (codes "status=" ++ name) ∷ after) × AllByRecursion NoStatus after × (Named w n ≡ named name)))
 
 -- The talk
 

@@ -1,6 +1,6 @@
 -- The computed rule for names says what the rule in words says.
 use Rattle.std.proofs.Common.{◌≡◌, ℕ, ◌≤◌, Bool, ◌&&◌, leb, List, length, Decides, refl}
-use Rattle.std.specs.List.{AllByRecursion as All}
+use Rattle.std.specs.List.{AllByRecursion}
 use Rattle.std.proofs.ByRecursion.{All-get_or, All-from_get_or, Decides-by_and}
 use Rattle.std.proofs.lemmas.Bool.{leb-true, le-leb}
 use Rattle.std.proofs.lemmas.Bool.Decides.{Decides-and, Decides-like, same_from_decides}
@@ -14,7 +14,7 @@ visible_decides b = Decides-and (leb 33 b) (leb b 126) (decides_leb 33 b) (decid
 
 pub all_visible_decides : (text : List ℕ) → Decides (all_visible text) (AllVisible text)
 all_visible_decides text =
-    Decides-like {P = All Visible text} {Q = AllVisible text} (all_visible text)
+    Decides-like {P = AllByRecursion Visible text} {Q = AllVisible text} (all_visible text)
     (λ h k l. All-get_or Visible text k 0 l h) (λ h. All-from_get_or Visible text 0 h)
     (Decides-by_and visible Visible all_visible visible_decides refl (λ _ _. refl) text)
 
