@@ -16,7 +16,7 @@ fn hex_char(d: usize) -> u8
 
 /// The four digits of `n` over the front of `area`.
 fn lay_header(n: usize, area: &mut [u8])
-    requires small { n ≤ 65520 }
+    requires small { n < 65536 }
     requires room { 4 ≤ length area.old }
     ensures { area.new ≡ over (digits n) area.old }
 {

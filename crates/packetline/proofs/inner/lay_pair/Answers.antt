@@ -3,7 +3,7 @@ use Rattle.packetline.proofs.Laying.{pair_long, pair_small, pair_laid}
 use Rattle.packetline.proofs.inner.lay_pair.Goals as goal
 
 pub lay_header-requires : goal.lay_header-requires
-lay_header-requires c = record { small = pair_small c.args.left.now c.args.sign c.args.right.now c.requires.sendable; room = omega arith }
+lay_header-requires c = record { small = omega (arith, pair_small c.args.left.now c.args.sign c.args.right.now c.requires.sendable); room = omega arith }
 
 pub returns : goal.returns
 returns c =
