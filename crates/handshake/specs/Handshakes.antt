@@ -50,29 +50,29 @@ is_server None = false
 is_server (Some rest) = bytes_eq rest (codes "-server")
 
 abbrev pub welcomed : List ℕ → Option (List ℕ) → Result (Unit {0}) ℕ
-welcomed prefix None = Err 30
-welcomed prefix (Some t) = cond (is_server (after_prefix prefix t)) (Ok tt) (Err 30)
+welcomed prefix None = Err (protocol_number Welcome)
+welcomed prefix (Some t) = cond (is_server (after_prefix prefix t)) (Ok tt) (Err (protocol_number Welcome))
 
 -- a number, else 31, that was offered, else 32
 abbrev pub offered : List ℕ → Option ℕ → Result ℕ ℕ
-offered versions None = Err 31
-offered versions (Some n) = cond (is_some (first_equal nat_eq n versions)) (Ok n) (Err 32)
+offered versions None = Err (protocol_number Version)
+offered versions (Some n) = cond (is_some (first_equal nat_eq n versions)) (Ok n) (Err (protocol_number NotOffered))
 
 abbrev pub version_in : List ℕ → Kind → Result ℕ ℕ
-version_in versions (status s) = Err 31
-version_in versions (capability s) = Err 31
+version_in versions (status s) = Err (protocol_number Version)
+version_in versions (capability s) = Err (protocol_number Version)
 version_in versions (version s) = offered versions (number_of s)
-version_in versions (pathname s) = Err 31
-version_in versions (other l) = Err 31
+version_in versions (pathname s) = Err (protocol_number Version)
+version_in versions (other l) = Err (protocol_number Version)
 
 abbrev pub chosen : List ℕ → Option (List ℕ) → Result ℕ ℕ
-chosen versions None = Err 31
+chosen versions None = Err (protocol_number Version)
 chosen versions (Some t) = version_in versions (kind_of t)
 
 -- a flush, else 33
 abbrev pub ended : Option (List ℕ) → Result (Unit {0}) ℕ
 ended None = Ok tt
-ended (Some t) = Err 33
+ended (Some t) = Err (protocol_number Flush)
 
 -- the name in a `capability=` line
 abbrev pub capability_in : Kind → Option (List ℕ)
@@ -84,7 +84,7 @@ capability_in (other l) = None
 
 -- a desired name sets its bit; one that is not desired is 34
 abbrev pub at_place : ℕ → Option ℕ → Result ℕ ℕ
-at_place m None = Err 34
+at_place m None = Err (protocol_number Capability)
 at_place m (Some k) = Ok (with_bit m k)
 
 -- other lines change nothing
