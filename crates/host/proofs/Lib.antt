@@ -7,3 +7,4 @@ pub mod Streams
 pub mod Sends
 pub mod Parts
 pub mod Wants
+pub mod Peering

@@ -1,6 +1,6 @@
 -- Content in parts.
-use Rattle.std.proofs.Common.{◌≡◌, ℕ, zero, suc, ◌+◌, ◌-◌, ◌<◌, ◌≤◌, min, true, List, [], ◌∷◌, ◌++◌, map, length, take, drop, sym, refl, ap, ◌∙◌, ⊎_elim, arith, take-append-drop}
-use Rattle.std.proofs.lemmas.List.{take_all, drop_all, drop-drop, length-drop, length-take}
+use Rattle.std.proofs.Common.{◌≡◌, ℕ, zero, suc, ◌+◌, ◌-◌, ◌<◌, ◌≤◌, min, true, List, [], ◌∷◌, ◌++◌, map, length, take, drop, sym, refl, ap, ◌∙◌, ⊎_elim, arith, take-append-drop, append-nil, length-append}
+use Rattle.std.proofs.lemmas.List.{take_all, drop_all, take_at, drop_at, length-drop, length-take}
 use Rattle.std.proofs.lemmas.Bool.{cases_lt, le-leb, and_from}
 use Rattle.packetline.specs.Packets.{line, all_sendable}
 use Rattle.host.specs.Parts.{parts, parts_in, joined, Parted}
@@ -27,26 +27,27 @@ pub parts_none : (c : List ℕ) → c ≡ [] → map line (parts c) ≡ []
 unfolding parts
 parts_none c e = ap (λ x. map line (parts_in (length x) x)) e
 
--- the packets of what is left of a content at i, of which the next part has n bytes
-pub parts_next : (c : List ℕ) (i n : ℕ) → i < length c → n ≡ min (length c - i) 65516
-    → map line (parts (drop i c)) ≡ line (take (i + n - i) (drop i c)) ∷ map line (parts (drop (i + n) c))
-parts_next c i n within is =
-    ap (map line) (parts_more (drop i c) (simp length-drop (omega arith)))
-    ∙ ap (λ b. line b ∷ map line (parts (drop 65516 (drop i c)))) (sym front) ∙ ap (λ x. line (take (i + n - i) (drop i c)) ∷ map line (parts x)) back
+-- the packets of what is left of a content, of which the next part is x
+pub parts_next : (c x y : List ℕ) → c ≡ x ++ y → length x ≡ min 65516 (length c) → 0 < length c → map line (parts c) ≡ line x ∷ map line (parts y)
+parts_next c x y is long some =
+    ap (map line) (parts_more c some) ∙ ap (λ b. line b ∷ map line (parts (drop 65516 c))) front ∙ ap (λ r. line x ∷ map line (parts r)) back
   where
-    front : take (i + n - i) (drop i c) ≡ take 65516 (drop i c)
+    whole : length c ≡ length x + length y
+    whole = ap length is ∙ length-append x y
+
+    front : take 65516 c ≡ x
     front =
         ⊎_elim
-        (λ (h : length c - i < 65516). take_all (i + n - i) (drop i c) (simp length-drop (omega arith)) ∙ sym (take_all 65516 (drop i c) (simp length-drop (omega arith))))
-        (λ (h : 65516 ≤ length c - i). let e : i + n - i ≡ 65516 = omega arith in ap (λ m. take m (drop i c)) e)
-        (cases_lt (length c - i) 65516)
+        (λ (h : length c < 65516). take_all 65516 c (omega (arith, whole)) ∙ is ∙ ap (λ r. x ++ r) (drop_all 0 y (omega (arith, whole))) ∙ append-nil x)
+        (λ (h : 65516 ≤ length c). ap (take 65516) is ∙ take_at x y 65516 (omega (arith, whole)))
+        (cases_lt (length c) 65516)
 
-    back : drop 65516 (drop i c) ≡ drop (i + n) c
+    back : drop 65516 c ≡ y
     back =
         ⊎_elim
-        (λ (h : length c - i < 65516). drop_all 65516 (drop i c) (simp length-drop (omega arith)) ∙ sym (drop_all (i + n) c (omega arith)))
-        (λ (h : 65516 ≤ length c - i). drop-drop 65516 i c ∙ (let e : i + 65516 ≡ i + n = omega arith in ap (λ m. drop m c) e))
-        (cases_lt (length c - i) 65516)
+        (λ (h : length c < 65516). drop_all 65516 c (omega (arith, whole)) ∙ sym (drop_all 0 y (omega (arith, whole))))
+        (λ (h : 65516 ≤ length c). ap (drop 65516) is ∙ drop_at x y 65516 (omega (arith, whole)))
+        (cases_lt (length c) 65516)
 
 parted_in : (k : ℕ) (c : List ℕ) → length c ≤ k → (joined (parts_in k c) ≡ c) × (all_sendable (map line (parts_in k c)) ≡ true)
 parted_in zero [] h = (refl, refl)

@@ -5,3 +5,4 @@ pub mod Fills
 pub mod Talk
 pub mod Parts
 pub mod Calls
+pub mod Peers

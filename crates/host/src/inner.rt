@@ -1,14 +1,16 @@
-//! What this crate lends the next: packets sent to and read from a process, for a caller who has judged area and payload.
+//! What this crate lends the next: packets sent to and read from a peer, for a caller who has judged what is sent.
 ghost use Rattle.std.specs.Prelude.{◌≡◌, ◌+◌, ◌≤◌, true, ◌∷◌, ◌++◌, map, length, take, IfSome, IfOk};
 ghost use Rattle.packetline.specs.Packets.{flush, line, line_pkt, framable, sendable, all_sendable, payload_length};
 ghost use Rattle.host.specs.Worlds.{waits};
 ghost use Rattle.host.specs.Fills.{Filled, Brought};
-ghost use Rattle.host.specs.Talk.{sight, Works, send, send_all, read, read_content, read_text, shown, shown_part};
+ghost use Rattle.host.specs.Talk.{send, send_all, read, read_content, read_text, shown, shown_part};
 ghost use Rattle.host.specs.Parts.{parts, Parted};
 ghost use Rattle.host.specs.Calls.{Streamed};
+ghost use Rattle.host.specs.Peers.{Does};
 
 use crate::fault::{Fault, LineFault};
 use crate::host::Host;
+use crate::peer::Peer;
 use packetline::decode::hex_prefix;
 use packetline::encode::MAX_DATA_LEN;
 use packetline::inner::{lay_data, lay_flush, lay_pair};
@@ -30,148 +32,99 @@ fn fill<H: Host>(host: &mut H, process: usize, area: &mut [u8]) -> Result<(), Fa
     Ok(())
 }
 
-/// The next packet; its payload lies at the front of `area`.
-pub fn read_packet<H: Host>(
-    host: &mut H,
-    process: usize,
-    area: &mut [u8],
-) -> Result<Packet, LineFault>
-    requires { 65520 ≤ length area.old }
-    ensures bound { IfOk result (λ k. payload_length k ≤ 65516) }
-    ensures goes { Works read (sight (H.log host.old) (H.world host.old)) process area.old (shown area.new result) (sight (H.log host.new) (H.world host.new)) area.new }
-    ensures stream { Streamed (waits (H.world host.old) process) (shown area.new result) (waits (H.world host.new) process) }
-{
-    let mut head = [0u8; 4];
-    fill(host, process, &mut head)?;
-    let packet = hex_prefix(&head)?;
-    if let Packet::Data(n) = packet {
-        fill(host, process, &mut area[0..n])?;
+impl<H: Host> Peer<'_, H> {
+    /// The next packet; its payload lies at the front of the work area.
+    pub fn read_packet(&mut self) -> Result<Packet, LineFault>
+        ensures bound { IfOk result (λ k. payload_length k ≤ 65516) }
+        ensures goes { Does H.log H.world read self.old (shown self.new.work.now result) self.new }
+        ensures stream { Streamed (waits (H.world self.old.host.now) self.old.process) (shown self.new.work.now result) (waits (H.world self.new.host.now) self.old.process) }
+    {
+        let mut head = [0u8; 4];
+        fill(self.host, self.process, &mut head)?;
+        let packet = hex_prefix(&head)?;
+        if let Packet::Data(n) = packet {
+            fill(self.host, self.process, &mut self.work[0..n])?;
+        }
+        Ok(packet)
     }
-    Ok(packet)
-}
 
-/// The length of the next packet's payload, which lies at the front of `area` as it came; none at a flush.
-pub fn read_content<H: Host>(
-    host: &mut H,
-    process: usize,
-    area: &mut [u8],
-) -> Result<Option<usize>, LineFault>
-    requires { 65520 ≤ length area.old }
-    ensures bound { IfOk result (λ o. IfSome o (λ n. n ≤ 65516)) }
-    ensures goes { Works read_content (sight (H.log host.old) (H.world host.old)) process area.old (shown_part area.new result) (sight (H.log host.new) (H.world host.new)) area.new }
-{
-    match read_packet(host, process, area)? {
-        Packet::Flush => Ok(None),
-        Packet::Data(n) => Ok(Some(n)),
-        _ => Err(LineFault::Marker),
+    /// The length of the next packet's payload, which lies at the front of the work area as it came; none at a flush.
+    pub fn read_content(&mut self) -> Result<Option<usize>, LineFault>
+        ensures bound { IfOk result (λ o. IfSome o (λ n. n ≤ 65516)) }
+        ensures goes { Does H.log H.world read_content self.old (shown_part self.new.work.now result) self.new }
+    {
+        match self.read_packet()? {
+            Packet::Flush => Ok(None),
+            Packet::Data(n) => Ok(Some(n)),
+            _ => Err(LineFault::Marker),
+        }
     }
-}
 
-/// The length of the next packet's text, which lies at the front of `area`, the white space at its end not counted; none at a flush.
-pub fn read_text<H: Host>(
-    host: &mut H,
-    process: usize,
-    area: &mut [u8],
-) -> Result<Option<usize>, LineFault>
-    requires { 65520 ≤ length area.old }
-    ensures goes { Works read_text (sight (H.log host.old) (H.world host.old)) process area.old (shown_part area.new result) (sight (H.log host.new) (H.world host.new)) area.new }
-    ensures bound { IfOk result (λ o. IfSome o (λ n. n ≤ 65516)) }
-{
-    let Some(n) = read_content(host, process, area)? else {
-        return Ok(None);
-    };
-    let text = text(&area[0..n])?;
-    Ok(Some(text.len()))
-}
-
-/// The packet of `payload`, in one send; it is laid over the front of `area` first, and stays there where it is refused.
-pub fn send_packet<H: Host>(
-    host: &mut H,
-    process: usize,
-    area: &mut [u8],
-    payload: &[u8],
-) -> Result<(), LineFault>
-    requires framable { framable payload.now ≡ true }
-    requires room { 65520 ≤ length area.old }
-    ensures { Works (send (line payload.now)) (sight (H.log host.old) (H.world host.old)) process area.old result (sight (H.log host.new) (H.world host.new)) area.new }
-{
-    let len = lay_data(payload, area);
-    Ok(host.send(process, &area[0..len])?)
-}
-
-/// The packet of a text line, which goes out as given: no LF is added.
-pub fn send_line<H: Host>(
-    host: &mut H,
-    process: usize,
-    area: &mut [u8],
-    text: &[u8],
-) -> Result<(), LineFault>
-    requires sendable { sendable (line_pkt text.now) ≡ true }
-    requires room { 65520 ≤ length area.old }
-    ensures { Works (send (line_pkt text.now)) (sight (H.log host.old) (H.world host.old)) process area.old result (sight (H.log host.new) (H.world host.new)) area.new }
-{
-    send_packet(host, process, area, text)
-}
-
-/// The packet of a text line in two parts with a sign between them, as `key=value`.
-pub fn send_pair<H: Host>(
-    host: &mut H,
-    process: usize,
-    area: &mut [u8],
-    left: &[u8],
-    sign: u8,
-    right: &[u8],
-) -> Result<(), LineFault>
-    requires short { length left.now + length right.now + 1 ≤ 65516 }
-    requires room { 65520 ≤ length area.old }
-    ensures { Works (send (line_pkt (left.now ++ sign ∷ right.now))) (sight (H.log host.old) (H.world host.old)) process area.old result (sight (H.log host.new) (H.world host.new)) area.new }
-{
-    let end = lay_pair(left, sign, right, area);
-    Ok(host.send(process, &area[0..end])?)
-}
-
-/// A flush.
-pub fn send_flush<H: Host>(host: &mut H, process: usize, area: &mut [u8]) -> Result<(), LineFault>
-    requires { 65520 ≤ length area.old }
-    ensures { Works (send flush) (sight (H.log host.old) (H.world host.old)) process area.old result (sight (H.log host.new) (H.world host.new)) area.new }
-{
-    let n = lay_flush(area);
-    Ok(host.send(process, &area[0..n])?)
-}
-
-/// A packet for each line, up to the first that is refused.
-pub fn send_lines<H: Host>(
-    host: &mut H,
-    process: usize,
-    area: &mut [u8],
-    lines: &[&[u8]],
-) -> Result<(), LineFault>
-    requires sendable { all_sendable (map (λ x. line_pkt x.now) lines.now) ≡ true }
-    requires room { 65520 ≤ length area.old }
-    ensures { Works (send_all (map (λ x. line_pkt x.now) lines.now)) (sight (H.log host.old) (H.world host.old)) process area.old result (sight (H.log host.new) (H.world host.new)) area.new }
-{
-    for line in lines {
-        send_line(host, process, area, line)?;
+    /// The length of the next packet's text, which lies at the front of the work area, the white space at its end not counted; none at a flush.
+    pub fn read_text(&mut self) -> Result<Option<usize>, LineFault>
+        ensures goes { Does H.log H.world read_text self.old (shown_part self.new.work.now result) self.new }
+        ensures bound { IfOk result (λ o. IfSome o (λ n. n ≤ 65516)) }
+    {
+        let Some(n) = self.read_content()? else {
+            return Ok(None);
+        };
+        let text = text(&mut self.work[0..n])?;
+        Ok(Some(text.len()))
     }
-    Ok(())
-}
 
-/// Content in packets of 65,516 bytes, the last perhaps shorter, up to the first that is refused; none for empty content.
-pub fn send_content<H: Host>(
-    host: &mut H,
-    process: usize,
-    area: &mut [u8],
-    content: &[u8],
-) -> Result<(), LineFault>
-    requires { 65520 ≤ length area.old }
-    ensures goes { Works (send_all (map line (parts content.now))) (sight (H.log host.old) (H.world host.old)) process area.old result (sight (H.log host.new) (H.world host.new)) area.new }
-    ensures law { Parted content.now }
-{
-    let mut at = 0;
-    while at < content.len() {
-        let n = (content.len() - at).min(MAX_DATA_LEN);
-        send_packet(host, process, area, &content[at..at + n])?;
-        at += n;
+    /// The packet of `payload`, in one send; it is laid over the front of the work area first, and stays there where it is refused.
+    pub fn send_packet(&mut self, payload: &[u8]) -> Result<(), LineFault>
+        requires { framable payload.now ≡ true }
+        ensures { Does H.log H.world (send (line payload.now)) self.old result self.new }
+    {
+        let len = lay_data(payload, self.work);
+        Ok(self.host.send(self.process, &mut self.work[0..len])?)
     }
-    Ok(())
+
+    /// The packet of a text line, which goes out as given: no LF is added.
+    pub fn send_line(&mut self, text: &[u8]) -> Result<(), LineFault>
+        requires { sendable (line_pkt text.now) ≡ true }
+        ensures { Does H.log H.world (send (line_pkt text.now)) self.old result self.new }
+    {
+        self.send_packet(text)
+    }
+
+    /// The packet of a text line in two parts with a sign between them, as `key=value`.
+    pub fn send_pair(&mut self, left: &[u8], sign: u8, right: &[u8]) -> Result<(), LineFault>
+        requires { length left.now + length right.now + 1 ≤ 65516 }
+        ensures { Does H.log H.world (send (line_pkt (left.now ++ sign ∷ right.now))) self.old result self.new }
+    {
+        let end = lay_pair(left, sign, right, self.work);
+        Ok(self.host.send(self.process, &mut self.work[0..end])?)
+    }
+
+    /// A flush.
+    pub fn send_flush(&mut self) -> Result<(), LineFault>
+        ensures { Does H.log H.world (send flush) self.old result self.new }
+    {
+        let n = lay_flush(self.work);
+        Ok(self.host.send(self.process, &mut self.work[0..n])?)
+    }
+
+    /// A packet for each line, up to the first that is refused.
+    pub fn send_lines(&mut self, lines: &[&[u8]]) -> Result<(), LineFault>
+        requires { all_sendable (map (λ x. line_pkt x.now) lines.now) ≡ true }
+        ensures { Does H.log H.world (send_all (map (λ x. line_pkt x.now) lines.now)) self.old result self.new }
+    {
+        for line in lines {
+            self.send_line(line)?;
+        }
+        Ok(())
+    }
+
+    /// Content in packets of 65,516 bytes, the last perhaps shorter, up to the first that is refused; none for empty content.
+    pub fn send_content(&mut self, content: &[u8]) -> Result<(), LineFault>
+        ensures goes { Does H.log H.world (send_all (map line (parts content.now))) self.old result self.new }
+        ensures law { Parted content.now }
+    {
+        for part in content.chunks(MAX_DATA_LEN) {
+            self.send_packet(part)?;
+        }
+        Ok(())
+    }
 }

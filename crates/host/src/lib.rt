@@ -4,5 +4,6 @@
 pub mod fault;
 pub mod host;
 pub mod inner;
+pub mod peer;
 pub mod reading;
 pub mod sending;

@@ -9,7 +9,8 @@ ghost use Rattle.host.specs.Calls.{Streamed, Checked, room, read_why, why_number
 
 use crate::fault::LineFault;
 use crate::host::Host;
-use crate::inner::{MAX_LINE_LEN, read_packet};
+use crate::inner::MAX_LINE_LEN;
+use crate::peer::Peer;
 use packetline::packet::Packet;
 
 /// Why no packet was read.
@@ -47,5 +48,10 @@ pub fn read<H: Host>(host: &mut H, process: usize, area: &mut [u8]) -> Result<Pa
     if area.len() < MAX_LINE_LEN {
         return Err(ReadError::AreaTooShort);
     }
-    Ok(read_packet(host, process, area)?)
+    Ok(Peer {
+        host,
+        process,
+        work: area,
+    }
+    .read_packet()?)
 }

@@ -9,8 +9,8 @@ ghost use Rattle.host.specs.Calls.{Checked, room, judged, send_why, why_number};
 
 use crate::fault::LineFault;
 use crate::host::Host;
-use crate::inner;
 use crate::inner::MAX_LINE_LEN;
+use crate::peer::Peer;
 use packetline::encode::MAX_DATA_LEN;
 
 /// Why not all was sent.
@@ -57,7 +57,12 @@ pub fn send_line<H: Host>(
     if text.is_empty() || text.len() > MAX_DATA_LEN {
         return Err(SendError::OutsideLimits);
     }
-    Ok(inner::send_line(host, process, area, text)?)
+    Ok(Peer {
+        host,
+        process,
+        work: area,
+    }
+    .send_line(text)?)
 }
 
 /// A flush.
@@ -67,7 +72,12 @@ pub fn send_flush<H: Host>(host: &mut H, process: usize, area: &mut [u8]) -> Res
     if area.len() < MAX_LINE_LEN {
         return Err(SendError::AreaTooShort);
     }
-    Ok(inner::send_flush(host, process, area)?)
+    Ok(Peer {
+        host,
+        process,
+        work: area,
+    }
+    .send_flush()?)
 }
 
 /// Content in packets of 65,516 bytes, the last perhaps shorter, up to the first that is refused; none for empty content.
@@ -82,5 +92,10 @@ pub fn send_content<H: Host>(
     if area.len() < MAX_LINE_LEN {
         return Err(SendError::AreaTooShort);
     }
-    Ok(inner::send_content(host, process, area, content)?)
+    Ok(Peer {
+        host,
+        process,
+        work: area,
+    }
+    .send_content(content)?)
 }

@@ -1,9 +1,10 @@
 use Rattle.std.proofs.Common.{◌∷◌, ◌++◌, Err, refl, ap, ◌∙◌, arith, length-append, rules}
+use Rattle.std.proofs.lemmas.List.{take-append-drop}
 use Rattle.std.proofs.lemmas.Result.{err_from_is_err_and}
 use Rattle.packetline.specs.Packets.{line_pkt}
 use Rattle.packetline.proofs.Laying.{pair_sendable}
 use Rattle.host.proofs.Sends.{front_works}
-use Rattle.host.proofs.inner.send_pair.Goals as goal
+use Rattle.host.proofs.peer.Peer.send_pair.Goals as goal
 
 pub lay_pair-end-requires : goal.lay_pair-end-requires
 lay_pair-end-requires g c = search (rules, pair_sendable)
@@ -15,10 +16,14 @@ pub returns-in_err-send : goal.returns-in_err-send
 returns-in_err-send g c =
     let e = err_from_is_err_and c.from_residual.result c.from_residual.ensures.1 in
     let s = c.in_err-send.ensures in
-    front_works _ _ (line_pkt (c.args.left.now ++ c.args.sign ∷ c.args.right.now)) c.args.area.now _ _ _ _ c.lay_pair-end.ensures.laid _ c.lay_pair-end.ensures.len _ _ s.goes s.logs
-    (e.1 ∙ ap (λ x. Err x) e.2)
+    record {
+      lent = search rules;
+      talks = rw take-append-drop (front_works _ _ (line_pkt (c.args.left.now ++ c.args.sign ∷ c.args.right.now)) c.args.self.now.work.now _ _ _ _ c.lay_pair-end.ensures.laid _ c.lay_pair-end.ensures.len _ _ s.goes s.logs
+          (e.1 ∙ ap (λ x. Err x) e.2));
+    }
 
 pub returns : goal.returns
 returns g c =
     let s = c.in_ok-send.ensures in
-    front_works _ _ (line_pkt (c.args.left.now ++ c.args.sign ∷ c.args.right.now)) c.args.area.now _ _ _ _ c.lay_pair-end.ensures.laid _ c.lay_pair-end.ensures.len _ _ s.goes s.logs refl
+    record { lent = search rules; talks = rw take-append-drop (front_works _ _ (line_pkt (c.args.left.now ++ c.args.sign ∷ c.args.right.now)) c.args.self.now.work.now _ _ _ _ c.lay_pair-end.ensures.laid _ c.lay_pair-end.ensures.len _ _ s.goes s.logs refl);
+    }
