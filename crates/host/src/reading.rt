@@ -11,6 +11,7 @@ use crate::fault::LineFault;
 use crate::host::Host;
 use crate::inner::{MAX_LINE_LEN, read_packet};
 use packetline::packet::Packet;
+use slices::refusal::Numbered;
 
 /// Why no packet was read.
 #[derive(Clone, Copy)]
