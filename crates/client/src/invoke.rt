@@ -6,6 +6,7 @@ ghost use Rattle.client.specs.Requests.{request, invoke_number};
 
 use host::fault::LineFault;
 use packetline::encode::MAX_DATA_LEN;
+use slices::refusal::Numbered;
 
 /// Why a command was not answered by a status.
 #[derive(Clone, Copy)]

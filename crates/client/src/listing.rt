@@ -5,6 +5,7 @@ ghost use Rattle.client.specs.Listings.{list_number};
 
 use host::fault::LineFault;
 use process::status::Status;
+use slices::refusal::Numbered;
 
 /// The status of a listing, how many paths were named (a count that stays at 2^64 - 1), how many of them are stored, and whether one found no space.
 #[derive(Clone, Copy)]

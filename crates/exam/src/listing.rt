@@ -6,6 +6,7 @@ use packetline::decode::{Stream, streaming};
 use packetline::packet::PacketLineRef;
 use recording::line::Direction;
 use recording::show::escape;
+use slices::refusal::Numbered;
 use std::alloc::{AllocError, Global};
 
 /// How many bytes of a payload or of a path are shown.

@@ -11,6 +11,7 @@ use host::sending::{send_flush, send_line};
 use packetline::packet::{Packet, PacketLineRef};
 use recording::show::{escape, read_back};
 use scripts::script::Script;
+use slices::refusal::Numbered;
 use std::alloc::{AllocError, Global};
 use trace::traced::Traced;
 

@@ -4,6 +4,7 @@ ghost use Rattle.handshake.specs.declared.protocol.Refusal.TheVariants.{Line as 
 ghost use Rattle.handshake.specs.Handshakes.{protocol_number, refusal_number};
 
 use host::fault::LineFault;
+use slices::refusal::Numbered;
 
 /// What a process must not say in a handshake.
 #[derive(Clone, Copy)]

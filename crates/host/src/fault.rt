@@ -4,16 +4,16 @@ ghost use Rattle.host.specs.declared.fault.LineFault.TheVariants.{Host as of_hos
 ghost use Rattle.host.specs.Faults.{start_number, fault_number, line_number};
 
 use packetline::{decode, text};
+use slices::refusal::Numbered;
 
 /// The refusal of a command that cannot be started now, or for which the host has no place.
 #[derive(Clone, Copy)]
 pub struct NotStarted;
 
-impl NotStarted {
-    /// The refusal's number.
-    pub fn refusal_number(self) -> u8
-        ensures { result ≡ start_number self }
-    {
+impl Numbered for NotStarted {
+    ghost number = { start_number };
+
+    fn refusal_number(self) -> u8 {
         10
     }
 }
@@ -26,11 +26,10 @@ pub enum Fault {
     Other,
 }
 
-impl Fault {
-    /// The refusal's number.
-    pub fn refusal_number(self) -> u8
-        ensures { result ≡ fault_number self }
-    {
+impl Numbered for Fault {
+    ghost number = { fault_number };
+
+    fn refusal_number(self) -> u8 {
         match self {
             Fault::Closed => 11,
             Fault::Broken => 12,
@@ -55,11 +54,10 @@ pub enum LineFault {
     Text(text::Error),
 }
 
-impl LineFault {
-    /// The refusal's number.
-    pub fn refusal_number(self) -> u8
-        ensures { result ≡ line_number self }
-    {
+impl Numbered for LineFault {
+    ghost number = { line_number };
+
+    fn refusal_number(self) -> u8 {
         match self {
             LineFault::Host(fault) => fault.refusal_number(),
             LineFault::Packet(e) => e.refusal_number(),

@@ -12,6 +12,7 @@ use crate::host::Host;
 use crate::inner::MAX_LINE_LEN;
 use crate::peer::Peer;
 use packetline::packet::Packet;
+use slices::refusal::Numbered;
 
 /// Why no packet was read.
 #[derive(Clone, Copy)]

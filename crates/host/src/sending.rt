@@ -12,6 +12,7 @@ use crate::host::Host;
 use crate::inner::MAX_LINE_LEN;
 use crate::peer::Peer;
 use packetline::encode::MAX_DATA_LEN;
+use slices::refusal::Numbered;
 
 /// Why not all was sent.
 #[derive(Clone, Copy)]

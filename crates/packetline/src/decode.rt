@@ -6,6 +6,7 @@ ghost use Rattle.packetline.specs.Reads.{decode_number, front_told, Within, pkt,
 ghost use Rattle.std.specs.Iterator.{at_most};
 
 use crate::packet::{Packet, PacketLineRef};
+use slices::refusal::Numbered;
 
 /// Why bytes are no packet.
 #[derive(Clone, Copy, PartialEq, Eq, Debug)]
@@ -13,11 +14,10 @@ pub enum Error {
     BadHeader,
 }
 
-impl Error {
-    /// The refusal's number.
-    pub fn refusal_number(self) -> u8
-        ensures { result ≡ decode_number self }
-    {
+impl Numbered for Error {
+    ghost number = { decode_number };
+
+    fn refusal_number(self) -> u8 {
         match self {
             Error::BadHeader => 20,
         }

@@ -5,6 +5,7 @@ ghost use Rattle.packetline.specs.Packets.{flush, line, line_pkt};
 ghost use Rattle.packetline.specs.Frames.{encode_number, Framed};
 
 use crate::inner::{lay_data, lay_flush};
+use slices::refusal::Numbered;
 
 /// The greatest length of a payload.
 pub const MAX_DATA_LEN: usize = 65_516;
@@ -16,11 +17,10 @@ pub enum Error {
     OutsideLimits,
 }
 
-impl Error {
-    /// The refusal's number.
-    pub fn refusal_number(self) -> u8
-        ensures { result ≡ encode_number self }
-    {
+impl Numbered for Error {
+    ghost number = { encode_number };
+
+    fn refusal_number(self) -> u8 {
         match self {
             Error::AreaTooShort => 1,
             Error::OutsideLimits => 2,

@@ -3,17 +3,18 @@ ghost use Rattle.std.specs.Prelude.{◌≡◌, ◌<◌, length, drop, Some, IsUt
 ghost use Rattle.slices.specs.Answers.{told};
 ghost use Rattle.packetline.specs.Text.{IsText, number_of, text_number, text_of, utf8};
 
+use slices::refusal::Numbered;
+
 /// Why a payload is no text.
 #[derive(Clone, Copy, PartialEq, Eq, Debug)]
 pub enum Error {
     NotUtf8,
 }
 
-impl Error {
-    /// The refusal's number.
-    pub fn refusal_number(self) -> u8
-        ensures { result ≡ text_number self }
-    {
+impl Numbered for Error {
+    ghost number = { text_number };
+
+    fn refusal_number(self) -> u8 {
         match self {
             Error::NotUtf8 => 22,
         }

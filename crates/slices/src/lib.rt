@@ -1,7 +1,8 @@
-//! What the other crates need of slices: the search for an equal element, names, and rows that refuse when full.
+//! What the other crates need of slices: the search for an equal element, names, rows that refuse when full, and the numbers of refusals.
 #![tactic(auto)]
 
 pub mod equal;
 pub mod name;
 pub mod names;
+pub mod refusal;
 pub mod rows;

@@ -9,6 +9,7 @@ ghost use Rattle.slices.specs.Same.{same_refl, same_sym, same_trans};
 
 use crate::equal::Equal;
 use crate::name::{Name, OutsideLimits};
+use crate::refusal::Numbered;
 
 /// Whether each byte of `text` is visible.
 fn is_visible(text: &[u8]) -> bool
@@ -41,6 +42,14 @@ fn padded(text: &[u8]) -> [u8; 64]
     let mut bytes = [0u8; 64];
     bytes[0..len].copy_from_slice(text);
     bytes
+}
+
+impl Numbered for OutsideLimits {
+    ghost number = { name_number };
+
+    fn refusal_number(self) -> u8 {
+        2
+    }
 }
 
 impl Name {

@@ -1,12 +1,22 @@
 //! Rows over a lent slice that refuse when full.
 ghost use Rattle.std.specs.Prelude.{◌≡◌, ◌≤◌, length, take};
 ghost use Rattle.slices.specs.Answers.{told};
-ghost use Rattle.slices.specs.Held.{handed_back, pushed, IsPush};
+ghost use Rattle.slices.specs.Held.{full_number, handed_back, pushed, IsPush};
+
+use crate::refusal::Numbered;
 
 /// The refusal of a row for which there is no place: it hands the row back.
 #[derive(Drop, Debug)]
 pub struct Full<T> {
     pub row: T,
+}
+
+impl<T: Drop> Numbered for Full<T> {
+    ghost number = { full_number };
+
+    fn refusal_number(self) -> u8 {
+        7
+    }
 }
 
 /// The first `count` of the lent rows are held.

@@ -8,6 +8,7 @@ use packetline::packet::Packet;
 use packetline::{decode, encode, metadata, text};
 use slices::equal::first;
 use slices::name::Name;
+use slices::refusal::Numbered;
 use slices::rows::Rows;
 use std::alloc::AllocError;
 use std::io;
