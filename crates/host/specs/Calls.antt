@@ -4,11 +4,12 @@ use Rattle.packetline.specs.Packets.{Pkt, sendable, packet, lowered}
 use Rattle.host.specs.declared.fault.Fault.{Fault}
 use Rattle.host.specs.declared.fault.LineFault.{LineFault}
 use Rattle.host.specs.declared.fault.LineFault.TheVariants.{Host}
-use Rattle.host.specs.declared.reading.ReadError.{ReadError}
-use Rattle.host.specs.declared.reading.ReadError.TheVariants.{AreaTooShort as read_short, Line as read_line}
-use Rattle.host.specs.declared.sending.SendError.{SendError}
-use Rattle.host.specs.declared.sending.SendError.TheVariants.{AreaTooShort as send_short, OutsideLimits, Line as send_line}
-use Rattle.host.specs.Faults.{line_number}
+use Rattle.host.specs.declared.call.CallError.{CallError}
+use Rattle.host.specs.declared.call.CallError.TheVariants.{Caller, Line}
+use Rattle.host.specs.declared.call.AreaTooShort.{AreaTooShort}
+use Rattle.host.specs.Refusals.{too_short}
+use Rattle.packetline.specs.declared.encode.Error.{Error as Misuse}
+use Rattle.packetline.specs.declared.encode.Error.TheVariants.{AreaTooShort as Short, OutsideLimits}
 
 -- What a reader tells of the bytes that wait, ws before and ws' after.
 pub record Streamed (ws : List ℕ) (r : Result Pkt LineFault) (ws' : List ℕ) : Type 0 where
@@ -20,34 +21,16 @@ pub record Streamed (ws : List ℕ) (r : Result Pkt LineFault) (ws' : List ℕ) 
   pub stops : (f : Fault) → r ≡ Err (Host f)
       → (ws' ≡ []) × ((p : Pkt) (bytes rest : List ℕ) → sendable p ≡ true → lowered bytes ≡ packet p → ws ≢ bytes ++ rest)
 
--- why a call refuses: its caller is at fault, by a number, or the line is
-pub data Why : Type 0 where
-  caller : ℕ → Why
-  on_line : LineFault → Why
-
-abbrev pub why_number : Why → ℕ
-why_number (caller n) = n
-why_number (on_line f) = line_number f
-
-abbrev pub read_why : ReadError → Why
-read_why read_short = caller 1
-read_why (read_line f) = on_line f
-
-abbrev pub send_why : SendError → Why
-send_why send_short = caller 1
-send_why OutsideLimits = caller 2
-send_why (send_line f) = on_line f
-
 -- the fault of a caller who lends an area: 1 where the longest packet has no room there
-abbrev pub room : List ℕ → Option ℕ
-room area = cond (nat_le 65520 (length area)) None (Some 1)
+abbrev pub room : List ℕ → Option AreaTooShort
+room area = cond (nat_le 65520 (length area)) None (Some too_short)
 
 -- the fault of a caller who sends a packet: 1 as above, then 2 where the packet cannot be sent
-abbrev pub judged : Pkt → List ℕ → Option ℕ
-judged p area = cond (nat_le 65520 (length area)) (cond (sendable p) None (Some 2)) (Some 1)
+abbrev pub judged : Pkt → List ℕ → Option Misuse
+judged p area = cond (nat_le 65520 (length area)) (cond (sendable p) None (Some OutsideLimits)) (Some Short)
 
 -- A call that judges its arguments: where its caller is at fault it answers that, and all is as it was; else it goes on.
-abbrev pub Checked : {A : Type 0} → Option ℕ → (Result A LineFault → Type 0) → Type 0 → Result A Why → Type 0
+abbrev pub Checked : {A C E : Type 0} → Option C → (Result A E → Type 0) → Type 0 → Result A (CallError C E) → Type 0
 Checked fault goes same (Ok a) = (fault ≡ None) × goes (Ok a)
-Checked fault goes same (Err (on_line f)) = (fault ≡ None) × goes (Err f)
-Checked fault goes same (Err (caller n)) = (fault ≡ Some n) × same
+Checked fault goes same (Err (Line e)) = (fault ≡ None) × goes (Err e)
+Checked fault goes same (Err (Caller c)) = (fault ≡ Some c) × same

@@ -1,4 +1,5 @@
 pub mod Faults
+pub mod Refusals
 pub mod Worlds
 pub mod Acts
 pub mod Fills

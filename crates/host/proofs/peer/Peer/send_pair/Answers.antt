@@ -25,5 +25,7 @@ returns-in_err-send g c =
 pub returns : goal.returns
 returns g c =
     let s = c.in_ok-send.ensures in
-    record { lent = search rules; talks = rw take-append-drop (front_works _ _ (line_pkt (c.args.left.now ++ c.args.sign ∷ c.args.right.now)) c.args.self.now.work.now _ _ _ _ c.lay_pair-end.ensures.laid _ c.lay_pair-end.ensures.len _ _ s.goes s.logs refl);
+    record {
+      lent = search rules;
+      talks = rw take-append-drop (front_works _ _ (line_pkt (c.args.left.now ++ c.args.sign ∷ c.args.right.now)) c.args.self.now.work.now _ _ _ _ c.lay_pair-end.ensures.laid _ c.lay_pair-end.ensures.len _ _ s.goes s.logs refl);
     }
