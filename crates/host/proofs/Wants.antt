@@ -46,21 +46,18 @@ module _ (w : Sight) (p : ℕ) (area : List ℕ) (w₁ : Sight) (area₁ : List 
     pub text_none : o ≡ None → Works read_text w p area (shown_part area₁ (Ok None)) w₁ area₁
     text_none is status = talk_then text_in None (talk_is (ap (λ x. shown_part area₁ (Ok x)) (sym is)) (s status)) (talk_none (Ok None) w₁ p (areas area₁ status))
 
-    module _ (n : ℕ) (some : o ≡ Some n) where
-      payload_is : take (n - 0) area₁ ≡ take n area₁
-      payload_is = let z : n - 0 ≡ n = omega arith in ap (λ m. take m area₁) z
-
-      text_by : (t : Result (List ℕ) ℕ) (r : Result (Option (List ℕ)) LineFault) → t ≡ text_of (take (n - 0) area₁)
+    module _ (n : ℕ) (some : o ≡ Some n) (part : List ℕ) (payload_is : part ≡ take n area₁) where
+      text_by : (t : Result (List ℕ) ℕ) (r : Result (Option (List ℕ)) LineFault) → t ≡ text_of part
           → ((status : List ℕ) → Talks (texted t) w₁ p (areas area₁ status) r w₁ (areas area₁ status)) → Works read_text w p area r w₁ area₁
       text_by t r is h status =
           talk_then text_in (Some (take n area₁)) (talk_is (ap (λ x. shown_part area₁ (Ok x)) (sym some)) (s status))
           (subst (λ x. Talks (texted x) w₁ p (areas area₁ status) r w₁ (areas area₁ status)) (is ∙ ap text_of payload_is) (h status))
 
-      pub text_bad : (e : Error) (r : Result (Option ℕ) LineFault) → Err (text_number e) ≡ text_of (take (n - 0) area₁) → r ≡ Err (Text e) → Works read_text w p area (shown_part area₁ r) w₁ area₁
+      pub text_bad : (e : Error) (r : Result (Option ℕ) LineFault) → Err (text_number e) ≡ text_of part → r ≡ Err (Text e) → Works read_text w p area (shown_part area₁ r) w₁ area₁
       text_bad NotUtf8 r is told =
           text_by (Err (text_number NotUtf8)) (shown_part area₁ r) is (λ status. talk_is (ap (shown_part area₁) told) (talk_none (Err (Text NotUtf8)) w₁ p (areas area₁ status)))
 
-      module _ (t : List ℕ) (law : IsText (take (n - 0) area₁) (Ok t)) where
+      module _ (t : List ℕ) (law : IsText part (Ok t)) where
         pub text_short : length t ≤ n
         text_short =
             let parts : length (take n area₁) ≡ length t + length law.1.back = ap length (sym payload_is ∙ law.1.whole) ∙ length-append t law.1.back in
@@ -71,7 +68,7 @@ module _ (w : Sight) (p : ℕ) (area : List ℕ) (w₁ : Sight) (area₁ : List 
         lies =
             sym (take-take (length t) n area₁ text_short) ∙ ap (take (length t)) (sym payload_is ∙ law.1.whole) ∙ take_at t law.1.back (length t) refl
 
-        pub text_works : Ok t ≡ text_of (take (n - 0) area₁) → Works read_text w p area (shown_part area₁ (Ok (Some (length t)))) w₁ area₁
+        pub text_works : Ok t ≡ text_of part → Works read_text w p area (shown_part area₁ (Ok (Some (length t)))) w₁ area₁
         text_works is =
             text_by (Ok t) (Ok (Some (take (length t) area₁))) is
             (λ status. talk_is (ap (λ x. Ok (Some x)) lies) (talk_none (Ok (Some t)) w₁ p (areas area₁ status)))

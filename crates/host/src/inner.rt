@@ -60,6 +60,14 @@ impl<H: Host> Peer<'_, H> {
         }
     }
 
+    /// The first `n` bytes of the work area.
+    pub fn front(&self, n: usize) -> &[u8]
+        requires { n ≤ 65520 }
+        ensures { result.now ≡ take n self.now.work.now }
+    {
+        &self.work[0..n]
+    }
+
     /// The length of the next packet's text, which lies at the front of the work area, the white space at its end not counted; none at a flush.
     pub fn read_text(&mut self) -> Result<Option<usize>, LineFault>
         ensures goes { Does H.log H.world read_text self.old (shown_part self.new.work.now result) self.new }
@@ -68,7 +76,7 @@ impl<H: Host> Peer<'_, H> {
         let Some(n) = self.read_content()? else {
             return Ok(None);
         };
-        let text = text(&mut self.work[0..n])?;
+        let text = text(self.front(n))?;
         Ok(Some(text.len()))
     }
 
