@@ -1,5 +1,5 @@
 -- The loop that reads a status.
-use Rattle.std.proofs.Common.{◌≡◌, ℕ, ◌-◌, List, [], ◌++◌, take, Some, None, Ok, Err, Option, Result, sym, refl, ap, ◌∙◌, subst, arith}
+use Rattle.std.proofs.Common.{◌≡◌, ℕ, List, [], ◌++◌, take, Some, None, Ok, Err, Option, Result, sym, refl, ap, ◌∙◌, subst}
 use Rattle.packetline.specs.Lines.{kind_of}
 use Rattle.host.specs.declared.fault.LineFault.{LineFault}
 use Rattle.host.specs.Talk.{Event, areas, lay, read_text, shown_part, Sight, Acted, Works}
@@ -32,14 +32,14 @@ module _ (st : Status) (w : Sight) (p : ℕ) (work status : List ℕ) (w₀ : Si
         (left_stop read_text status_step st w p (areas work status) read_status w₀ (areas work₀ status₀) w₁ (areas work₁ status) left None st
         (talk_is (ap (λ x. shown_part work₁ (Ok x)) (sym e)) (s status)) refl).0
 
-    pub told_line : (n : ℕ) → o ≡ Some n → (st' : Status) (status₁ : List ℕ) → st' ≡ told_by st (status_in (kind_of (take (n - 0) work₁))) → status₁ ≡ laid_by (status_in (kind_of (take (n - 0) work₁))) status
+    pub told_line : (n : ℕ) → o ≡ Some n → (part : List ℕ) → part ≡ take n work₁ → (st' : Status) (status₁ : List ℕ)
+        → st' ≡ told_by st (status_in (kind_of part)) → status₁ ≡ laid_by (status_in (kind_of part)) status
         → (es' : List Event) × Left read_text status_step st' es' w₁ p (areas work₁ status₁) read_status w₀ (areas work₀ status₀)
-    told_line n e st' status₁ is laid =
-        let z : n - 0 ≡ n = omega arith in
+    told_line n e part front st' status₁ is laid =
         let name : List ℕ → Option (List ℕ) = λ t. status_in (kind_of t) in
         let t = talk_is (ap (λ x. shown_part work₁ (Ok x)) (sym e)) (s status) in
         let o' = name (take n work₁) in
         let next = left_more read_text status_step st w p (areas work status) read_status w₀ (areas work₀ status₀) w₁ (areas work₁ status) left (Some (take n work₁)) (told_by st o') (noted_by o') (areas work₁ status₁)
-        t refl (ap (areas work₁) (laid ∙ ap (λ m. laid_by (name (take m work₁)) status) z) ∙ noted_laid o' work₁ status) (acted_noted p o') (text_falls t) in
+        t refl (ap (areas work₁) (laid ∙ ap (λ m. laid_by (name m) status) front) ∙ noted_laid o' work₁ status) (acted_noted p o') (text_falls t) in
         let es' = noted_by o' ++ (t.events ++ es) in
-        (es', subst (λ x. Left read_text status_step x es' w₁ p (areas work₁ status₁) read_status w₀ (areas work₀ status₀)) (sym (is ∙ ap (λ m. told_by st (name (take m work₁))) z)) next)
+        (es', subst (λ x. Left read_text status_step x es' w₁ p (areas work₁ status₁) read_status w₀ (areas work₀ status₀)) (sym (is ∙ ap (λ m. told_by st (name m)) front)) next)

@@ -2,7 +2,9 @@
 use Rattle.std.specs.Prelude.{◌≡◌, ℕ, Bool, true, cond, ◌&&◌, List, [], ◌∷◌, length, Some, None, Option, Result, nat_le}
 use Rattle.packetline.specs.Packets.{Pkt, decode}
 use Rattle.packetline.specs.Text.{utf8}
+use Rattle.host.specs.declared.call.AreaTooShort.{AreaTooShort}
 use Rattle.host.specs.declared.fault.LineFault.{LineFault}
+use Rattle.host.specs.Refusals.{too_short}
 use Rattle.host.specs.Talk.{Wire, Got, Areas, areas, Sight, Talks, bytes_sent, bytes_given}
 
 -- bytes decode to these packets, and nothing is left
@@ -27,15 +29,5 @@ abbrev pub WorksBy : {A : Type 0} → Law A → (Wire → Got A) → Sight → �
 WorksBy law f w p work r w' work' = (status : List ℕ) → TalksBy law f w p (areas work status) r w' (areas work' status)
 
 -- the fault of a caller who lends a work area and a status area: 1 where one of them is too short
-abbrev pub rooms : List ℕ → List ℕ → Option ℕ
-rooms work status = cond (nat_le 65520 (length work) && nat_le 128 (length status)) None (Some 1)
-
--- what a call that judges its arguments answers: its caller is at fault, by a number; or it went on
-pub data Judged (A : Type 0) : Type 0 where
-  at_fault : ℕ → Judged A
-  went : Result A LineFault → Judged A
-
--- where its caller is at fault it answers that, and all is as it was
-abbrev pub Called : {A : Type 0} → Option ℕ → (Result A LineFault → Type 0) → Type 0 → Judged A → Type 0
-Called fault goes same (at_fault n) = (fault ≡ Some n) × same
-Called fault goes same (went r) = (fault ≡ None) × goes r
+abbrev pub rooms : List ℕ → List ℕ → Option AreaTooShort
+rooms work status = cond (nat_le 65520 (length work) && nat_le 128 (length status)) None (Some too_short)

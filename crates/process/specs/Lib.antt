@@ -1,4 +1,5 @@
 pub mod Gather
 pub mod Given
+pub mod Peers
 pub mod Statuses
 pub mod Masks

@@ -1,15 +1,15 @@
-//! What this crate lends the next: a status read, for a caller who has judged the areas.
-ghost use Rattle.std.specs.Prelude.{◌≡◌, ◌≤◌, length, take};
+//! What this crate lends the next: a status read from a peer.
+ghost use Rattle.std.specs.Prelude.{◌≡◌, take};
 ghost use Rattle.packetline.specs.Packets.{over};
 ghost use Rattle.packetline.specs.Lines.{kind_of};
-ghost use Rattle.host.specs.Talk.{sight, areas};
-ghost use Rattle.process.specs.Given.{TalksBy};
+ghost use Rattle.process.specs.Peers.{DoesWith};
 ghost use Rattle.process.specs.Statuses.{word_of, status_in, told_by, laid_by, read_status as status_read, StatusLaw};
 
+use crate::area::{MAX_STATUS_LEN, StatusArea};
 use crate::status::{Status, Word};
 use host::fault::LineFault;
 use host::host::Host;
-use host::inner::read_text;
+use host::peer::Peer;
 use packetline::line::Line;
 use slices::names::same_bytes;
 
@@ -32,23 +32,25 @@ fn word_of(name: &[u8]) -> Word
     Word::Other
 }
 
-/// The first 128 bytes of a name over the front of the status area.
-fn lay_name(status: &mut [u8], name: &[u8])
-    requires { 128 ≤ length status.old }
-    ensures { status.new ≡ over (take 128 name.now) status.old }
-{
-    let n = name.len().min(128);
-    status[0..n].copy_from_slice(&name[0..n]);
+impl StatusArea<'_> {
+    /// The first 128 bytes of a name over the front of the area.
+    fn lay(&mut self, name: &[u8])
+        ensures lent { self.new.bytes.ghost_name ≡ self.old.bytes.ghost_name }
+        ensures laid { self.new.bytes.now ≡ over (take 128 name.now) self.old.bytes.now }
+    {
+        let n = name.len().min(MAX_STATUS_LEN);
+        self.bytes[0..n].copy_from_slice(&name[0..n]);
+    }
 }
 
 /// The status after one more line of text; a name is laid over the status area.
-fn note(told: Status, text: &[u8], status: &mut [u8]) -> Status
-    requires { 128 ≤ length status.old }
+fn note(told: Status, text: &[u8], status: &mut StatusArea<'_>) -> Status
     ensures answer { result ≡ told_by told (status_in (kind_of text.now)) }
-    ensures laid { status.new ≡ laid_by (status_in (kind_of text.now)) status.old }
+    ensures lent { status.new.bytes.ghost_name ≡ status.old.bytes.ghost_name }
+    ensures laid { status.new.bytes.now ≡ laid_by (status_in (kind_of text.now)) status.old.bytes.now }
 {
     if let Line::Status(name) = Line::read(text) {
-        lay_name(status, name);
+        status.lay(name);
         return Status::Named(word_of(name), name.len());
     }
     told.as_first()
@@ -56,18 +58,14 @@ fn note(told: Status, text: &[u8], status: &mut [u8]) -> Status
 
 /// The status that lines up to the flush tell; the last one wins.
 pub fn read_status<H: Host>(
-    host: &mut H,
-    process: usize,
-    work: &mut [u8],
-    status: &mut [u8],
+    peer: &mut Peer<'_, H>,
+    status: &mut StatusArea<'_>,
 ) -> Result<Status, LineFault>
-    requires work { 65520 ≤ length work.old }
-    requires status { 128 ≤ length status.old }
-    ensures { TalksBy StatusLaw status_read (sight (H.log host.old) (H.world host.old)) process (areas work.old status.old) result (sight (H.log host.new) (H.world host.new)) (areas work.new status.new) }
+    ensures { DoesWith H.log H.world StatusLaw status_read peer.old status.old result peer.new status.new }
 {
     let mut told = Status::Previous;
-    while let Some(n) = read_text(host, process, work)? {
-        told = note(told, &work[0..n], status);
+    while let Some(n) = peer.read_text()? {
+        told = note(told, peer.front(n), status);
     }
     Ok(told)
 }
