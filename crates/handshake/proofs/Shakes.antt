@@ -5,6 +5,11 @@ use Rattle.std.proofs.lemmas.Bool.Decides.{same_from_decides}
 use Rattle.slices.specs.declared.name.Name.{Name}
 use Rattle.packetline.specs.Packets.{Pkt, flush, line, Decoded, decode, packets, flushes_of}
 use Rattle.packetline.specs.Text.{utf8, trim_end}
+use Rattle.host.specs.declared.peer.Peer.{Peer}
+use Rattle.host.specs.Worlds.{World}
+use Rattle.host.specs.Acts.{Log}
+use Rattle.host.specs.Peers.{Does}
+use Rattle.process.specs.Peers.{DoesBy}
 use Rattle.host.specs.declared.fault.LineFault.{LineFault}
 use Rattle.host.specs.Talk.{bytes_sent, bytes_given, Wire, Got, got, then, send_all, read_text, Sight, Works}
 use Rattle.process.specs.Given.{ReadsAs, all_text, WorksBy}
@@ -301,8 +306,13 @@ module _ (prefix versions : List ℕ) (names : List Name) where
           all = λ v m a. let z = two given gs v m reads a in absurd (omega arith);
         }
 
-    pub handshake_works : {w : Sight} {p : ℕ} {work : List ℕ} {r : Result (Result Shaken ℕ) LineFault} {w' : Sight} {work' : List ℕ} → Works (handshake prefix versions names) w p work r w' work'
-        → WorksBy (HandshakeLaw prefix versions names) (handshake prefix versions names) w p work r w' work'
-    handshake_works {r = r} s status =
-        let t = s status in
-        (t, law_by (bytes_sent t.events) (bytes_given t.events) r (told_by_talk Shook Few (handshake prefix versions names) handshake_passes t))
+    -- a handshake has its law
+    pub handshake_does : {H : Type 0} {log : H → Log} {world : H → World} {p p' : Peer H} {r : Result (Result Shaken ℕ) LineFault} → Does log world (handshake prefix versions names) p r p'
+        → DoesBy log world (HandshakeLaw prefix versions names) (handshake prefix versions names) p r p'
+    handshake_does {r = r} s =
+        record {
+          lent = s.lent;
+          talks = λ status.
+              let t = s.talks status in
+              (t, law_by (bytes_sent t.events) (bytes_given t.events) r (told_by_talk Shook Few (handshake prefix versions names) handshake_passes t));
+        }

@@ -1,15 +1,17 @@
 //! The parts of a client's handshake.
-ghost use Rattle.std.specs.Prelude.{◌≡◌, ◌≤◌, length, Some};
+ghost use Rattle.std.specs.Prelude.{◌≡◌, Option, Result, List, ℕ};
+ghost use Rattle.std.specs.Option.{option_map};
 ghost use Rattle.slices.specs.Answers.{told};
 ghost use Rattle.slices.specs.Names.{name_bytes};
-ghost use Rattle.host.specs.Talk.{sight, Works, send, send_all};
+ghost use Rattle.host.specs.Talk.{send, send_all};
+ghost use Rattle.host.specs.Peers.{Does};
 ghost use Rattle.process.specs.Masks.{place_of};
 ghost use Rattle.handshake.specs.Handshakes.{protocol_number, welcomed, chosen, with_line, version_line, hello, desired, ended, heard, read_judged, read_names};
 
 use crate::protocol::{Protocol, Refusal};
 use host::fault::LineFault;
 use host::host::Host;
-use host::inner::{read_text, send_flush, send_pair};
+use host::peer::Peer;
 use packetline::line::{Line, after};
 use packetline::text::{decimal, number};
 use process::capabilities::Capabilities;
@@ -18,81 +20,91 @@ use slices::name::Name;
 use slices::names::same_bytes;
 
 /// The line of one version.
-fn send_version<H: Host>(
-    host: &mut H,
-    process: usize,
-    area: &mut [u8],
-    version: u64,
-) -> Result<(), LineFault>
-    requires room { 65520 ≤ length area.old }
-    ensures { Works (send (version_line version)) (sight (H.log host.old) (H.world host.old)) process area.old result (sight (H.log host.new) (H.world host.new)) area.new }
+fn send_version<H: Host>(peer: &mut Peer<'_, H>, version: u64) -> Result<(), LineFault>
+    ensures { Does H.log H.world (send (version_line version)) peer.old result peer.new }
 {
     let mut digits = [0u8; 20];
     let at = decimal(version, &mut digits);
-    send_pair(host, process, area, b"version", b'=', &digits[at..])
+    peer.send_pair(b"version", b'=', &digits[at..])
 }
 
 /// The client's welcome, the versions that it offers, and a flush.
 pub(crate) fn send_hello<H: Host>(
-    host: &mut H,
-    process: usize,
-    area: &mut [u8],
+    peer: &mut Peer<'_, H>,
     prefix: &Name,
     versions: &[u64],
 ) -> Result<(), LineFault>
-    requires room { 65520 ≤ length area.old }
-    ensures { Works (send_all (hello (name_bytes prefix.now) versions.now)) (sight (H.log host.old) (H.world host.old)) process area.old result (sight (H.log host.new) (H.world host.new)) area.new }
+    ensures { Does H.log H.world (send_all (hello (name_bytes prefix.now) versions.now)) peer.old result peer.new }
 {
-    send_pair(host, process, area, prefix.as_bytes(), b'-', b"client")?;
+    peer.send_pair(prefix.as_bytes(), b'-', b"client")?;
     for version in versions {
-        send_version(host, process, area, *version)?;
+        send_version(peer, *version)?;
     }
-    send_flush(host, process, area)
+    peer.send_flush()
 }
 
 /// The names that the client desires, and a flush.
-pub(crate) fn send_desired<H: Host>(
-    host: &mut H,
-    process: usize,
-    area: &mut [u8],
-    names: &[Name],
-) -> Result<(), LineFault>
-    requires room { 65520 ≤ length area.old }
-    ensures { Works (send_all (desired names.now)) (sight (H.log host.old) (H.world host.old)) process area.old result (sight (H.log host.new) (H.world host.new)) area.new }
+pub(crate) fn send_desired<H: Host>(peer: &mut Peer<'_, H>, names: &[Name]) -> Result<(), LineFault>
+    ensures { Does H.log H.world (send_all (desired names.now)) peer.old result peer.new }
 {
     for name in names {
-        send_pair(host, process, area, b"capability", b'=', name.as_bytes())?;
+        peer.send_pair(b"capability", b'=', name.as_bytes())?;
     }
-    send_flush(host, process, area)
+    peer.send_flush()
 }
 
-/// The process's welcome: the prefix and `-server`.
-fn judge_welcome(text: &[u8], prefix: &Name) -> Result<(), Protocol>
-    ensures { told (λ u. u) protocol_number result ≡ welcomed (name_bytes prefix.now) (Some text.now) }
+/// Judges whether a line is the process's welcome: the prefix and `-server`.
+pub(crate) fn judge_welcome(line: Option<&[u8]>, prefix: &Name) -> Result<(), Protocol>
+    ensures { told (λ u. u) protocol_number result ≡ welcomed (name_bytes prefix.now) (option_map (λ x. x.now) line.entry) }
 {
-    let Some(rest) = after(prefix.as_bytes(), text) else {
+    let Some(text) = line else {
         return Err(Protocol::Welcome);
     };
-    if !same_bytes(rest, b"-server") {
-        return Err(Protocol::Welcome);
+    match after(prefix.as_bytes(), text) {
+        Some(b"-server") => Ok(()),
+        _ => Err(Protocol::Welcome),
     }
-    Ok(())
 }
 
-/// The version that the process chose, one of those that were offered.
-fn judge_version(text: &[u8], versions: &[u64]) -> Result<u64, Protocol>
-    ensures { told (λ n. n) protocol_number result ≡ chosen versions.now (Some text.now) }
+/// The version that a line chooses, one of those that were offered.
+pub(crate) fn judge_version(line: Option<&[u8]>, versions: &[u64]) -> Result<u64, Protocol>
+    ensures { told (λ n. n) protocol_number result ≡ chosen versions.now (option_map (λ x. x.now) line.entry) }
 {
+    let Some(text) = line else {
+        return Err(Protocol::Version);
+    };
     let Line::Version(digits) = Line::read(text) else {
         return Err(Protocol::Version);
     };
-    let Some(version) = number(digits) else {
-        return Err(Protocol::Version);
-    };
-    if first(versions, &version).is_none() {
-        return Err(Protocol::NotOffered);
+    let version = number(digits).ok_or(Protocol::Version)?;
+    match first(versions, &version) {
+        Some(_) => Ok(version),
+        None => Err(Protocol::NotOffered),
     }
-    Ok(version)
+}
+
+/// Judges whether a flush came, and no line.
+pub(crate) fn judge_end(line: Option<&[u8]>) -> Result<(), Protocol>
+    ensures { told (λ u. u) protocol_number result ≡ ended (option_map (λ x. x.now) line.entry) }
+{
+    match line {
+        None => Ok(()),
+        Some(_) => Err(Protocol::Flush),
+    }
+}
+
+/// Reads a line, or the flush in its place, and judges it.
+pub(crate) fn read_judged<H: Host, A: Drop, J: FnOnce(Option<&[u8]>) -> Result<A, Protocol>>(
+    peer: &mut Peer<'_, H>,
+    judge: J,
+) -> Result<A, Refusal>
+    requires { J.IsAlwaysCallable judge }
+    ensures { (verdict : Option (List ℕ) → Result A ℕ) → ((o : _) (r : _) → J.post judge o r → told (λ a. a) protocol_number r ≡ verdict (option_map (λ x. x.now) o)) → Does H.log H.world (read_judged verdict) peer.old (heard (λ a. a) result) peer.new }
+{
+    match peer.read_text()? {
+        Some(n) => Ok(judge(Some(peer.front(n)))?),
+        None => Ok(judge(None)?),
+    }
 }
 
 /// The place of the first of the names that are spelt so. A text that is no name is none of them.
@@ -118,66 +130,16 @@ fn with_line(named: Capabilities, text: &[u8], names: &[Name]) -> Result<Capabil
     }
 }
 
-/// Reads the process's welcome.
-pub(crate) fn read_welcome<H: Host>(
-    host: &mut H,
-    process: usize,
-    area: &mut [u8],
-    prefix: &Name,
-) -> Result<(), Refusal>
-    requires room { 65520 ≤ length area.old }
-    ensures { Works (read_judged (welcomed (name_bytes prefix.now))) (sight (H.log host.old) (H.world host.old)) process area.old (heard (λ u. u) result) (sight (H.log host.new) (H.world host.new)) area.new }
-{
-    let Some(n) = read_text(host, process, area)? else {
-        return Err(Refusal::Protocol(Protocol::Welcome));
-    };
-    Ok(judge_welcome(&area[0..n], prefix)?)
-}
-
-/// Reads the version that the process chose.
-pub(crate) fn read_version<H: Host>(
-    host: &mut H,
-    process: usize,
-    area: &mut [u8],
-    versions: &[u64],
-) -> Result<u64, Refusal>
-    requires room { 65520 ≤ length area.old }
-    ensures { Works (read_judged (chosen versions.now)) (sight (H.log host.old) (H.world host.old)) process area.old (heard (λ n. n) result) (sight (H.log host.new) (H.world host.new)) area.new }
-{
-    let Some(n) = read_text(host, process, area)? else {
-        return Err(Refusal::Protocol(Protocol::Version));
-    };
-    Ok(judge_version(&area[0..n], versions)?)
-}
-
-/// Reads the flush behind the version.
-pub(crate) fn read_end<H: Host>(
-    host: &mut H,
-    process: usize,
-    area: &mut [u8],
-) -> Result<(), Refusal>
-    requires room { 65520 ≤ length area.old }
-    ensures { Works (read_judged ended) (sight (H.log host.old) (H.world host.old)) process area.old (heard (λ u. u) result) (sight (H.log host.new) (H.world host.new)) area.new }
-{
-    match read_text(host, process, area)? {
-        None => Ok(()),
-        Some(_) => Err(Refusal::Protocol(Protocol::Flush)),
-    }
-}
-
 /// Reads the names that the process sends, up to the flush.
 pub(crate) fn read_names<H: Host>(
-    host: &mut H,
-    process: usize,
-    area: &mut [u8],
+    peer: &mut Peer<'_, H>,
     names: &[Name],
 ) -> Result<Capabilities, Refusal>
-    requires room { 65520 ≤ length area.old }
-    ensures { Works (read_names names.now) (sight (H.log host.old) (H.world host.old)) process area.old (heard (λ c. c.mask) result) (sight (H.log host.new) (H.world host.new)) area.new }
+    ensures { Does H.log H.world (read_names names.now) peer.old (heard (λ c. c.mask) result) peer.new }
 {
     let mut named = Capabilities::none();
-    while let Some(n) = read_text(host, process, area)? {
-        named = with_line(named, &area[0..n], names)?;
+    while let Some(n) = peer.read_text()? {
+        named = with_line(named, peer.front(n), names)?;
     }
     Ok(named)
 }

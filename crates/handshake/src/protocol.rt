@@ -16,11 +16,10 @@ pub enum Protocol {
     Capability,
 }
 
-impl Protocol {
-    /// The refusal's number.
-    pub fn refusal_number(self) -> u8
-        ensures { result ≡ protocol_number self }
-    {
+impl Numbered for Protocol {
+    ghost number = { protocol_number };
+
+    fn refusal_number(self) -> u8 {
         match self {
             Protocol::Welcome => 30,
             Protocol::Version => 31,
@@ -54,11 +53,10 @@ impl From<Protocol> for Refusal {
     }
 }
 
-impl Refusal {
-    /// The refusal's number.
-    pub fn refusal_number(self) -> u8
-        ensures { result ≡ refusal_number self }
-    {
+impl Numbered for Refusal {
+    ghost number = { refusal_number };
+
+    fn refusal_number(self) -> u8 {
         match self {
             Refusal::Line(fault) => fault.refusal_number(),
             Refusal::Protocol(p) => p.refusal_number(),

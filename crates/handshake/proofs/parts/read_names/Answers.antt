@@ -1,28 +1,28 @@
-use Rattle.std.proofs.Common.{[], Err, refl, ap, ◌∙◌, arith, rules}
+use Rattle.std.proofs.Common.{[], Err, ap, ◌∙◌, rules}
 use Rattle.std.proofs.lemmas.Result.{err_from_is_err_and}
+use Rattle.host.proofs.Peering.{later}
 use Rattle.process.proofs.Gathers.{text_falls}
 use Rattle.handshake.proofs.NamesLoop.{names_first, names_fault, names_wrong, names_more, names_end}
 use Rattle.handshake.proofs.parts.read_names.Goals as goal
 
 pub loop-n-init : goal.loop-n-init
-loop-n-init g c = (refl, names_first c.args.names.now _ (search rules) _ _ _)
+loop-n-init g c = names_first c.args.names.now _ (search rules) _
 
 pub returns-in_err-n : goal.returns-in_err-n
 returns-in_err-n g c =
     let e = err_from_is_err_and c.from_residual.result c.from_residual.ensures.1 in
-    names_fault c.args.names.now c.loop-n.named.mask _ _ _ _ _ c.loop-n.invariant.1 _ _ (λ x. x.mask) _ _ c.in_err-n.ensures.goes (e.1 ∙ ap (λ x. Err x) e.2)
+    names_fault c.args.names.now c.loop-n.invariant (λ x. x.mask) _ _ c.in_err-n.ensures.goes (e.1 ∙ ap (λ x. Err x) e.2)
 
 pub returns-in_err-named : goal.returns-in_err-named
 returns-in_err-named g c =
     let e = err_from_is_err_and c.from_residual-in_err-named.result c.from_residual-in_err-named.ensures.1 in
-    names_wrong c.args.names.now c.loop-n.named.mask _ _ _ _ _ c.loop-n.invariant.1 _ _ _ c.in_ok-n.ensures.goes c.in-Some.n c.in-Some.is (λ x. x.mask) _ _ c.in_err-named.ensures (e.1 ∙ ap (λ x. Err x) e.2)
+    names_wrong c.args.names.now c.loop-n.invariant _ c.in_ok-n.ensures.goes _ c.in-Some.is _ c.front.ensures (λ x. x.mask) _ _ c.in_err-named.ensures (e.1 ∙ ap (λ x. Err x) e.2)
 
 pub loop-n-smaller : goal.loop-n-smaller
-loop-n-smaller g c = text_falls (c.in_ok-n.ensures.goes [])
+loop-n-smaller g c = text_falls (later c.loop-n.invariant.lent c.in_ok-n.ensures.goes [])
 
 pub loop-n-preserved : goal.loop-n-preserved
-loop-n-preserved g c =
-    (omega arith, names_more c.args.names.now c.loop-n.named.mask _ _ _ _ _ c.loop-n.invariant.1 _ _ _ c.in_ok-n.ensures.goes c.in-Some.n c.in-Some.is _ c.in_ok-named.ensures)
+loop-n-preserved g c = names_more c.args.names.now c.loop-n.invariant _ c.in_ok-n.ensures.goes _ c.in-Some.is _ c.front.ensures _ c.in_ok-named.ensures
 
 pub returns : goal.returns
-returns g c = names_end c.args.names.now c.loop-n.named.mask _ _ _ _ _ c.loop-n.invariant.1 _ _ _ c.in_ok-n.ensures.goes c.in_default.is
+returns g c = names_end c.args.names.now c.loop-n.invariant _ c.in_ok-n.ensures.goes c.in_default.is

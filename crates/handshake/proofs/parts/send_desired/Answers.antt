@@ -1,22 +1,25 @@
-use Rattle.std.proofs.Common.{Err, ap, ◌∙◌, arith}
+use Rattle.std.proofs.Common.{Err, refl, ap, ◌∙◌, arith}
 use Rattle.std.proofs.lemmas.Result.{err_from_is_err_and}
-use Rattle.host.proofs.Sends.{packet_more, packet_stop}
+use Rattle.host.proofs.Peering.{begun, sent_more, sent_stop}
 use Rattle.handshake.specs.Handshakes.{capability_line}
-use Rattle.process.proofs.Lines.{lines_last, packet_last}
+use Rattle.process.proofs.Lines.{lines_last, sent_last}
 use Rattle.handshake.proofs.Places.{names_next}
 use Rattle.handshake.proofs.parts.send_desired.Goals as goal
+
+pub loop-name-init : goal.loop-name-init
+loop-name-init g c = begun refl
 
 pub returns-in_err-send_pair : goal.returns-in_err-send_pair
 returns-in_err-send_pair g c =
     let e = err_from_is_err_and c.from_residual.result c.from_residual.ensures.1 in
     let next = names_next c.args.names.now c.loop-name.name-index c.name-item.result c.as_bytes.result.now (omega arith) c.name-item.is c.as_bytes.ensures.value in
-    packet_stop _ _ _ _ _ _ next c.loop-name.invariant _ _ _ _ c.in_err-send_pair.ensures (e.1 ∙ ap (λ x. Err x) e.2)
+    sent_stop c.loop-name.invariant next _ _ c.in_err-send_pair.ensures (e.1 ∙ ap (λ x. Err x) e.2)
 
 pub loop-name-preserved : goal.loop-name-preserved
 loop-name-preserved g c =
     let next = names_next c.args.names.now c.loop-name.name-index c.name-item.result c.as_bytes.result.now (omega arith) c.name-item.is c.as_bytes.ensures.value in
-    packet_more _ _ _ _ _ _ next c.loop-name.invariant _ _ _ c.in_ok-send_pair.ensures
+    sent_more c.loop-name.invariant next c.in_ok-send_pair.ensures
 
 pub returns : goal.returns
 returns g c =
-    packet_last _ _ _ _ _ _ (lines_last capability_line c.args.names.now c.loop-name.name-index (omega arith)) c.loop-name.invariant _ _ _ c.send_flush.ensures
+    sent_last c.loop-name.invariant (lines_last capability_line c.args.names.now c.loop-name.name-index (omega arith)) c.send_flush.ensures

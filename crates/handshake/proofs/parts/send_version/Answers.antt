@@ -7,4 +7,4 @@ use Rattle.handshake.proofs.parts.send_version.Goals as goal
 pub returns : goal.returns
 returns g c =
     let e = between_to_end c.decimal-at.new.digits c.decimal-at.result 20 (omega (arith, c.decimal-at.ensures.len)) ∙ c.decimal-at.ensures.value in
-    sends_same _ _ _ (ap (λ (ds : List ℕ). line_pkt (codes "version=" ++ ds)) e) _ _ _ c.send_pair.ensures
+    sends_same (ap (λ (ds : List ℕ). line_pkt (codes "version=" ++ ds)) e) c.send_pair.ensures
