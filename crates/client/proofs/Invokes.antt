@@ -3,15 +3,20 @@ use Rattle.std.proofs.Common.{◌≡◌, ℕ, List, [], ◌∷◌, ◌++◌, map
 use Rattle.std.proofs.lemmas.List.{append-nil}
 use Rattle.packetline.specs.Packets.{Pkt, flush, line, Decoded, packets, flushes_of}
 use Rattle.host.specs.declared.fault.LineFault.{LineFault}
+use Rattle.host.specs.declared.peer.Peer.{Peer}
+use Rattle.host.specs.Worlds.{World}
+use Rattle.host.specs.Acts.{Log}
+use Rattle.host.specs.Peers.{Does}
 use Rattle.host.specs.Parts.{parts}
 use Rattle.host.specs.Talk.{bytes_sent, bytes_given, Areas, areas, Wire, Got, got, lost, then, send, send_all, Sight, Talks, Works}
-use Rattle.host.proofs.Talking.{talk_none, talk_then, talk_stop, talk_is, leads_here}
+use Rattle.host.proofs.Talking.{talk_none, talk_then, talk_stop, talk_is}
+use Rattle.host.proofs.Peering.{begun, does_then, does_stop}
 use Rattle.client.specs.declared.invoke.Meta.{Meta}
 use Rattle.process.specs.declared.status.Status.{Status}
 use Rattle.process.specs.Given.{TalksBy}
 use Rattle.process.specs.Statuses.{first, read_status, StatusLines, StatusLaw}
 use Rattle.client.specs.Requests.{request, content_packets, as_first, status_then, content_then, invoked, InvokeLaw}
-use Rattle.process.proofs.Lines.{packet_last}
+use Rattle.process.proofs.Lines.{sent_last}
 use Rattle.process.proofs.Passes.{Passes, passes_then, passes_got, send_all_passes, Told, told_by_talk}
 use Rattle.process.proofs.Tellings.{reads_same, status_passes, one_flush, status_same}
 
@@ -42,15 +47,16 @@ talk_same e t =
 abbrev flush_then : Unit {0} → Wire → Got (Unit {0})
 flush_then _ v = send_all (flush ∷ []) v
 
-module _ (c : List ℕ) (w : Sight) (p : ℕ) (work : List ℕ) (w₁ : Sight) (work₁ : List ℕ) where
-  pub body_stop : (r : Result (Unit {0}) LineFault) (e : LineFault) → Works (send_all (map line (parts c))) w p work (Err e) w₁ work₁ → r ≡ Err e → Works (send_all (content_packets c)) w p work r w₁ work₁
-  body_stop r e s is status = talk_is is (talk_same (send_append (map line (parts c)) (flush ∷ [])) (talk_stop flush_then e (s status)))
+module _ {H : Type 0} {log : H → Log} {world : H → World} (c : List ℕ) where
+  body_same : {p p' : Peer H} {r : Result (Unit {0}) LineFault} → Does log world (λ v. then (send_all (map line (parts c)) v) flush_then) p r p' → Does log world (send_all (content_packets c)) p r p'
+  body_same s = record { lent = s.lent; talks = λ status. talk_same (send_append (map line (parts c)) (flush ∷ [])) (s.talks status) }
 
-  pub body_end : (u : Unit {0}) → Works (send_all (map line (parts c))) w p work (Ok u) w₁ work₁ → (r : Result (Unit {0}) LineFault) (w₂ : Sight) (work₂ : List ℕ) → Works (send flush) w₁ p work₁ r w₂ work₂
-      → Works (send_all (content_packets c)) w p work r w₂ work₂
-  body_end u s r w₂ work₂ t status =
-      talk_same (send_append (map line (parts c)) (flush ∷ []))
-      (talk_then flush_then u (s status) (packet_last w₁ p work₁ (send_all (flush ∷ [])) w₁ work₁ {left = flush ∷ []} {x = flush} refl (λ a. leads_here _ _ _ _) w₂ work₂ r t status))
+  pub body_stop : {p p₁ : Peer H} (e : LineFault) (r : Result (Unit {0}) LineFault) → Does log world (send_all (map line (parts c))) p (Err e) p₁ → r ≡ Err e → Does log world (send_all (content_packets c)) p r p₁
+  body_stop e r s is = body_same (does_stop flush_then e r s is)
+
+  pub body_end : {p p₁ p₂ : Peer H} (u : Unit {0}) {r : Result (Unit {0}) LineFault} → Does log world (send_all (map line (parts c))) p (Ok u) p₁ → Does log world (send flush) p₁ r p₂
+      → Does log world (send_all (content_packets c)) p r p₂
+  body_end u s t = body_same (does_then flush_then u s (sent_last {x = flush} (begun {left = flush ∷ []} refl) refl t))
 
 -- What an exchange tells
 

@@ -1,8 +1,9 @@
 -- What a listing keeps, from one line to the next.
-use Rattle.std.proofs.Common.{◌≡◌, ℕ, zero, suc, ◌+◌, ◌-◌, ◌<◌, ◌≤◌, true, false, ltb, ◌⊎◌, List, [], ◌∷◌, ◌++◌, length, get_or, take, drop, set, is_ok, Some, Ok, Err, Option, Result, sym, refl, ap, ◌∙◌, subst, inl, inr, ⊎_elim, arith}
+use Rattle.std.proofs.Common.{◌≡◌, ℕ, zero, suc, ◌+◌, ◌-◌, ◌<◌, ◌≤◌, Bool, true, false, not, cond, ltb, ◌⊎◌, List, [], ◌∷◌, ◌++◌, length, get_or, take, drop, set, is_some, Some, None, Ok, Err, Option, Result, sym, refl, ap, ◌∙◌, subst, inl, inr, ⊎_elim, arith}
 use borrow.Rule.Slice.PartMut.{put_mid}
 use Rattle.std.proofs.lemmas.List.{append-nil, append_assoc, length-append, length_push, length-drop, drop-drop, drop_more, take_at, drop_at, set_at}
 use Rattle.std.proofs.lemmas.Bool.{cases_lt, lt-ltb, le-ltb, ltb-true, ltb-false, cond-true, cond-false}
+use Rattle.std.specs.Result.{result_ok}
 use Rattle.slices.specs.declared.rows.Full.{Full}
 use Rattle.slices.specs.Answers.{told}
 use Rattle.slices.specs.Held.{handed_back, pushed, IsPush}
@@ -10,7 +11,7 @@ use Rattle.packetline.specs.Packets.{over}
 use Rattle.host.specs.Parts.{joined}
 use Rattle.client.specs.declared.paths.Kept.{Kept}
 use Rattle.client.specs.declared.paths.PathRow.{PathRow}
-use Rattle.client.specs.Paths.{fitting, rows_of, rows_over, part_at, FirstOf, Stored, Keeping, most, listed}
+use Rattle.client.specs.Paths.{fitting, rows_of, rows_over, part_at, FirstOf, Stored, Keeping, KeepsPath, KeepsLine, most, listed}
 use Rattle.client.proofs.Fits.{fits, no_fit, fitting_first, fitting_stuck, fitting_on}
 
 -- Lists that are laid over the front of others
@@ -65,9 +66,9 @@ places_of at front (p ∷ ps) back rest (suc k) e h =
 keeping_as :
     (named : List (List ℕ)) (rows : List PathRow) (text : List ℕ) (kept : Kept) (rows' : List PathRow) (count : ℕ) (text' : List ℕ) (stored : List (List ℕ))
     → fitting (length rows) (length text) named ≡ stored → count ≡ length stored → rows' ≡ rows_over (rows_of 0 stored) rows → text' ≡ over (joined stored) text
-    → kept.named ≡ most (length named) → kept.used ≡ length (joined stored) → kept.full ≡ ltb (length stored) (length named)
+    → kept.named ≡ most (length named) → kept.next ≡ cond (ltb (length stored) (length named)) None (Some (length (joined stored)))
     → Keeping named rows text kept rows' count text'
-keeping_as named rows text kept rows' count text' stored e c r t n u f =
+keeping_as named rows text kept rows' count text' stored e c r t n f =
     record {
       stored_so_far =
           record {
@@ -82,122 +83,140 @@ keeping_as named rows text kept rows' count text' stored e c r t n u f =
                 ∙ ap (λ ps. get_or ps k []) (sym e);
           };
       counted = n;
-      used_is = u ∙ ap (λ ps. length (joined ps)) (sym e);
-      full_is = f ∙ ap (λ ps. ltb (length ps) (length named)) (sym e);
+      next_is = f ∙ ap (λ ps. cond (ltb (length ps) (length named)) None (Some (length (joined ps)))) (sym e);
     }
 
-pub keeping_none : (rows : List PathRow) (text : List ℕ) → Keeping [] rows text (record { named = 0; used = 0; full = false }) rows 0 text
-keeping_none rows text = keeping_as [] rows text (record { named = 0; used = 0; full = false }) rows 0 text [] refl refl refl refl (omega arith) refl refl
+pub keeping_none : (rows : List PathRow) (text : List ℕ) → Keeping [] rows text (record { named = 0; next = Some 0 }) rows 0 text
+keeping_none rows text = keeping_as [] rows text (record { named = 0; next = Some 0 }) rows 0 text [] refl refl refl refl (omega arith) refl
 
--- the used bytes lie in the text area
-pub keeping_room :
-    (named : List (List ℕ)) (rows : List PathRow) (text : List ℕ) (kept : Kept) (rows' : List PathRow) (count : ℕ) (text' : List ℕ)
-    → Keeping named rows text kept rows' count text' → kept.used ≤ length text'
-keeping_room named rows text kept rows' count text' k =
-    let size : length text' ≡ length (joined (fitting (length rows) (length text) named)) + (length text - length (joined (fitting (length rows) (length text) named))) =
-    ap length k.stored_so_far.text_is ∙ simp (length-append, length-drop) in
-    omega arith
+-- the next place, where there is one
+place_is : (b : Bool) (at n : ℕ) → Some at ≡ cond b None (Some n) → (b ≡ false) × (at ≡ n)
+place_is true at n e = let z : ◌≡◌ {A = ℕ} 0 1 = cc in absurd (omega arith)
+place_is false at n e = (refl, cc)
 
--- the rows stay as many, and so do the bytes of the text area
-pub keeping_sizes :
-    (named : List (List ℕ)) (rows : List PathRow) (text : List ℕ) (kept : Kept) (rows' : List PathRow) (count : ℕ) (text' : List ℕ)
-    → Keeping named rows text kept rows' count text' → (length rows' ≡ length rows) × (length text' ≡ length text)
-keeping_sizes named rows text kept rows' count text' k =
-    let stored : List (List ℕ) = fitting (length rows) (length text) named in
-    let first : FirstOf named (length rows) (length text) stored = k.stored_so_far.first in
-    let size : length text' ≡ length (joined stored) + (length text - length (joined stored)) = ap length k.stored_so_far.text_is ∙ simp (length-append, length-drop) in
-    let many : length rows' ≡ length stored + (length rows - length stored) =
-    ap length k.stored_so_far.rows_are ∙ simp (length-append, length-drop) (rw length_rows_of refl) in
-    (omega arith, omega arith)
+-- and where there is none
+no_place : (b : Bool) (n : ℕ) → None ≡ cond b None (Some n) → b ≡ true
+no_place true n e = refl
+no_place false n e = let z : ◌≡◌ {A = ℕ} 0 1 = cc in absurd (omega arith)
 
--- what is stored at the end, where rows and count go by other names
-pub keeping_stored :
-    (named : List (List ℕ)) (rows lent : List PathRow) (text : List ℕ) (kept : Kept) (rows' after : List PathRow) (count stored : ℕ) (text' : List ℕ)
-    → Keeping named rows text kept rows' count text' → rows ≡ lent → after ≡ rows' → stored ≡ count → Stored named lent text stored after text'
-keeping_stored named rows lent text kept rows' after count stored text' k re ae ce =
-    subst (λ s. Stored named s text stored after text') re
-    (subst (λ s. Stored named rows text stored s text') (sym ae) (subst (λ n. Stored named rows text n rows' text') (sym ce) k.stored_so_far))
+module _ (named : List (List ℕ)) (rows : List PathRow) (text : List ℕ) (kept : Kept) (rows' : List PathRow) (count : ℕ) (text' : List ℕ) (was : Keeping named rows text kept rows' count text') where
+  -- the rows stay as many, and so do the bytes of the text area
+  pub keeping_sizes : (length rows' ≡ length rows) × (length text' ≡ length text)
+  keeping_sizes =
+      let stored : List (List ℕ) = fitting (length rows) (length text) named in
+      let first : FirstOf named (length rows) (length text) stored = was.stored_so_far.first in
+      let size : length text' ≡ length (joined stored) + (length text - length (joined stored)) = ap length was.stored_so_far.text_is ∙ simp (length-append, length-drop) in
+      let many : length rows' ≡ length stored + (length rows - length stored) =
+      ap length was.stored_so_far.rows_are ∙ simp (length-append, length-drop) (rw length_rows_of refl) in
+      (omega arith, omega arith)
 
--- a path that finds a row and room is stored
-pub keeping_more :
-    (named : List (List ℕ)) (rows : List PathRow) (text : List ℕ) (kept : Kept) (rows' : List PathRow) (count : ℕ) (text' : List ℕ)
-    (p part : List ℕ) (n k : ℕ)
-    → Keeping named rows text kept rows' count text' → kept.full ≡ false → kept.used + length p ≤ length text' → count < length rows'
-    → n ≡ most (kept.named + 1) → k ≡ length p → part ≡ p
-    → Keeping (named ++ p ∷ []) rows text (record { named = n; used = kept.used + length p; full = false }) (set rows' count (record { at = kept.used; len = length p })) (count + 1) (put_mid kept.used k text' part)
-keeping_more named rows text kept rows' count text' p part n k was so room space ne ke pe =
-    let stored : List (List ℕ) = fitting (length rows) (length text) named in
-    let first : FirstOf named (length rows) (length text) stored = was.stored_so_far.first in
-    let sizes = keeping_sizes named rows text kept rows' count text' was in
-    let c : count ≡ length stored = was.stored_so_far.count in
-    let u : kept.used ≡ length (joined stored) = was.used_is in
-    let all : length named ≤ length stored = ltb-false (length stored) (length named) (sym was.full_is ∙ so) in
-    let on : fitting (length rows) (length text) (named ++ p ∷ []) ≡ stored ++ p ∷ [] =
-    fitting_on named (p ∷ []) (length rows) (length text) all ∙ ap (λ qs. stored ++ qs) (fits (length rows - length stored) (length text - length (joined stored)) p [] (omega (arith, sizes)) (omega (arith, sizes))) in
-    let row : PathRow = record { at = kept.used; len = length p } in
-    let many : count ≡ length (rows_of 0 stored) = c ∙ sym (length_rows_of 0 stored) in
-    let place : kept.used ≡ 0 + length (joined stored) = omega arith in
-    let rs : set rows' count (record { at = kept.used; len = length p }) ≡ rows_over (rows_of 0 (stored ++ p ∷ [])) rows =
-    ap (λ l. set l count row) was.stored_so_far.rows_are
-    ∙ ap (λ i. set (rows_over (rows_of 0 stored) rows) i row) many
-    ∙ rows_over_set (rows_of 0 stored) rows row (omega (arith, sizes))
-    ∙ ap (λ (i : ℕ). rows_over (rows_of 0 stored ++ record { at = i; len = length p } ∷ []) rows) place
-    ∙ ap (λ l. rows_over l rows) (sym (rows_of_append 0 stored (p ∷ []))) in
-    let ts : put_mid kept.used k text' part ≡ over (joined (stored ++ p ∷ [])) text =
-    ap (λ i. put_mid i k text' part) u
-    ∙ ap (λ i. put_mid (length (joined stored)) i text' part) ke
-    ∙ ap (λ l. put_mid (length (joined stored)) (length p) text' l) pe
-    ∙ ap (λ l. put_mid (length (joined stored)) (length p) l p) was.stored_so_far.text_is
-    ∙ over_put (joined stored) p text
-    ∙ ap (λ l. over l text) (sym (joined_push stored p)) in
-    keeping_as (named ++ p ∷ []) rows text (record { named = n; used = kept.used + length p; full = false }) (set rows' count (record { at = kept.used; len = length p })) (count + 1) (put_mid kept.used k text' part) (stored ++ p ∷ [])
-    on
-    (simp length-append (omega arith))
-    rs ts
-    (simp length-append (omega arith))
-    (ap (λ m. m + length p) u ∙ sym (length-append (joined stored) p) ∙ ap length (sym (joined_push stored p)))
-    (sym (le-ltb (length (stored ++ p ∷ [])) (length (named ++ p ∷ [])) (simp length-append (omega arith))))
+  -- the next place lies in the text area
+  pub keeping_room : (at : ℕ) → kept.next ≡ Some at → at ≤ length text'
+  keeping_room at e =
+      let stored : List (List ℕ) = fitting (length rows) (length text) named in
+      let size : length text' ≡ length (joined stored) + (length text - length (joined stored)) = ap length was.stored_so_far.text_is ∙ simp (length-append, length-drop) in
+      let place = (place_is (ltb (length stored) (length named)) at (length (joined stored)) (sym e ∙ was.next_is)).1 in
+      omega (arith, place)
 
--- a path that comes after one without space, or finds no row or no room, is counted only
-pub keeping_left :
-    (named : List (List ℕ)) (rows : List PathRow) (text : List ℕ) (kept : Kept) (rows' : List PathRow) (count : ℕ) (text' : List ℕ)
-    (p : List ℕ) (n : ℕ)
-    → Keeping named rows text kept rows' count text' → (kept.full ≡ true) ⊎ ((length text' < kept.used + length p) ⊎ (length rows' ≤ count))
-    → n ≡ most (kept.named + 1)
-    → Keeping (named ++ p ∷ []) rows text (record { named = n; used = kept.used; full = true }) rows' count text'
-keeping_left named rows text kept rows' count text' p n was why ne =
-    let stored : List (List ℕ) = fitting (length rows) (length text) named in
-    let first : FirstOf named (length rows) (length text) stored = was.stored_so_far.first in
-    let sizes = keeping_sizes named rows text kept rows' count text' was in
-    let c : count ≡ length stored = was.stored_so_far.count in
-    let u : kept.used ≡ length (joined stored) = was.used_is in
-    let below : length stored ≤ length named = omega (arith, simp length-append at (ap length first.are)) in
-    let on : fitting (length rows) (length text) (named ++ p ∷ []) ≡ stored =
-    ⊎_elim
-    (λ (h : length stored < length named). fitting_stuck named (p ∷ []) (length rows) (length text) h)
-    (λ (h : length named ≤ length stored).
-    fitting_on named (p ∷ []) (length rows) (length text) h
-    ∙ ap (λ qs. stored ++ qs) (no_fit (length rows - length stored) (length text - length (joined stored)) p []
-    (⊎_elim
-    (λ (f : kept.full ≡ true). absurd (omega (arith, ltb-true (length stored) (length named) (sym was.full_is ∙ f))))
-    (λ (w : (length text' < kept.used + length p) ⊎ (length rows' ≤ count)). ⊎_elim (λ (l : length text' < kept.used + length p). inr (omega (arith, sizes))) (λ (l : length rows' ≤ count). inl (omega (arith, sizes))) w)
-    why))
-    ∙ append-nil stored)
-    (cases_lt (length stored) (length named)) in
-    keeping_as (named ++ p ∷ []) rows text (record { named = n; used = kept.used; full = true }) rows' count text' stored
-    on c was.stored_so_far.rows_are was.stored_so_far.text_is
-    (simp length-append (omega arith))
-    u
-    (sym (lt-ltb (length stored) (length (named ++ p ∷ [])) (simp length-append (omega arith))))
+  -- what is stored at the end, where rows and count go by other names
+  pub keeping_stored : (lent after : List PathRow) (stored : ℕ) → rows ≡ lent → after ≡ rows' → stored ≡ count → Stored named lent text stored after text'
+  keeping_stored lent after stored re ae ce =
+      subst (λ s. Stored named s text stored after text') re
+      (subst (λ s. Stored named rows text stored s text') (sym ae) (subst (λ n. Stored named rows text n rows' text') (sym ce) was.stored_so_far))
 
--- A line that names a path
+  -- whether a path found no space
+  pub keeping_full : not (is_some kept.next) ≡ ltb (length (fitting (length rows) (length text) named)) (length named)
+  keeping_full = ap (λ o. not (is_some o)) was.next_is ∙ flag (ltb (length (fitting (length rows) (length text) named)) (length named)) (length (joined (fitting (length rows) (length text) named)))
+    where
+      flag : (b : Bool) (n : ℕ) → not (is_some (cond b None (Some n))) ≡ b
+      flag true n = refl
+      flag false n = refl
 
--- a push that is taken
+-- One path more
+
+module _ (named : List (List ℕ)) (rows : List PathRow) (text : List ℕ) (m : ℕ) (rows' : List PathRow) (count : ℕ) (text' : List ℕ) (p : List ℕ) where
+  abbrev stored : List (List ℕ)
+  stored = fitting (length rows) (length text) named
+
+  -- a path that finds a row and room is stored
+  pub keeping_more : (at : ℕ) (part : List ℕ) (k : ℕ)
+      → Keeping named rows text (record { named = m; next = Some at }) rows' count text' → at + length p ≤ length text' → count < length rows' → k ≡ length p → part ≡ p
+      → Keeping (named ++ p ∷ []) rows text (record { named = most (m + 1); next = Some (at + length p) }) (set rows' count (record { at = at; len = length p })) (count + 1) (put_mid at k text' part)
+  keeping_more at part k was room space ke pe =
+      let first : FirstOf named (length rows) (length text) stored = was.stored_so_far.first in
+      let sizes = keeping_sizes named rows text _ rows' count text' was in
+      let c : count ≡ length stored = was.stored_so_far.count in
+      let next = place_is (ltb (length stored) (length named)) at (length (joined stored)) was.next_is in
+      let u : at ≡ length (joined stored) = next.1 in
+      let all : length named ≤ length stored = ltb-false (length stored) (length named) next.0 in
+      let on : fitting (length rows) (length text) (named ++ p ∷ []) ≡ stored ++ p ∷ [] =
+      fitting_on named (p ∷ []) (length rows) (length text) all ∙ ap (λ qs. stored ++ qs) (fits (length rows - length stored) (length text - length (joined stored)) p [] (omega (arith, sizes, u)) (omega (arith, sizes, u))) in
+      let row : PathRow = record { at = at; len = length p } in
+      let many : count ≡ length (rows_of 0 stored) = c ∙ sym (length_rows_of 0 stored) in
+      let place : at ≡ 0 + length (joined stored) = omega (arith, u) in
+      let rs : set rows' count row ≡ rows_over (rows_of 0 (stored ++ p ∷ [])) rows =
+      ap (λ l. set l count row) was.stored_so_far.rows_are
+      ∙ ap (λ i. set (rows_over (rows_of 0 stored) rows) i row) many
+      ∙ rows_over_set (rows_of 0 stored) rows row (omega (arith, sizes, many))
+      ∙ ap (λ (i : ℕ). rows_over (rows_of 0 stored ++ record { at = i; len = length p } ∷ []) rows) place
+      ∙ ap (λ l. rows_over l rows) (sym (rows_of_append 0 stored (p ∷ []))) in
+      let ts : put_mid at k text' part ≡ over (joined (stored ++ p ∷ [])) text =
+      ap (λ i. put_mid i k text' part) u
+      ∙ ap (λ i. put_mid (length (joined stored)) i text' part) ke
+      ∙ ap (λ l. put_mid (length (joined stored)) (length p) text' l) pe
+      ∙ ap (λ l. put_mid (length (joined stored)) (length p) l p) was.stored_so_far.text_is
+      ∙ over_put (joined stored) p text
+      ∙ ap (λ l. over l text) (sym (joined_push stored p)) in
+      let far : at + length p ≡ length (joined (stored ++ p ∷ [])) =
+      ap (λ i. i + length p) u ∙ sym (length-append (joined stored) p) ∙ ap length (sym (joined_push stored p)) in
+      keeping_as (named ++ p ∷ []) rows text (record { named = most (m + 1); next = Some (at + length p) }) (set rows' count row) (count + 1) (put_mid at k text' part) (stored ++ p ∷ [])
+      on
+      (simp length-append (omega arith))
+      rs ts
+      (simp length-append (omega (arith, was.counted)))
+      (ap (λ i. Some i) far ∙ sym (cond-false (ltb (length (stored ++ p ∷ [])) (length (named ++ p ∷ []))) None (Some (length (joined (stored ++ p ∷ [])))) (le-ltb (length (stored ++ p ∷ [])) (length (named ++ p ∷ [])) (simp length-append (omega arith)))))
+
+  -- a path that is not stored is counted only
+  left_by : (next : Option ℕ) → Keeping named rows text (record { named = m; next = next }) rows' count text' → fitting (length rows) (length text) (named ++ p ∷ []) ≡ stored
+      → Keeping (named ++ p ∷ []) rows text (record { named = most (m + 1); next = None }) rows' count text'
+  left_by next was on =
+      let first : FirstOf named (length rows) (length text) stored = was.stored_so_far.first in
+      let below : length stored ≤ length named = omega (arith, simp length-append at (ap length first.are)) in
+      keeping_as (named ++ p ∷ []) rows text (record { named = most (m + 1); next = None }) rows' count text' stored
+      on was.stored_so_far.count was.stored_so_far.rows_are was.stored_so_far.text_is
+      (simp length-append (omega (arith, was.counted)))
+      (sym (cond-true (ltb (length stored) (length (named ++ p ∷ []))) None (Some (length (joined stored))) (lt-ltb (length stored) (length (named ++ p ∷ [])) (simp length-append (omega arith)))))
+
+  -- as one that comes after one without space
+  pub keeping_stuck : Keeping named rows text (record { named = m; next = None }) rows' count text' → Keeping (named ++ p ∷ []) rows text (record { named = most (m + 1); next = None }) rows' count text'
+  keeping_stuck was =
+      let short = ltb-true (length stored) (length named) (no_place (ltb (length stored) (length named)) (length (joined stored)) was.next_is) in
+      left_by None was (fitting_stuck named (p ∷ []) (length rows) (length text) short)
+
+  -- or one that finds no room or no row
+  pub keeping_left : (at : ℕ) → Keeping named rows text (record { named = m; next = Some at }) rows' count text' → (length text' < at + length p) ⊎ (length rows' ≤ count)
+      → Keeping (named ++ p ∷ []) rows text (record { named = most (m + 1); next = None }) rows' count text'
+  keeping_left at was why =
+      let first : FirstOf named (length rows) (length text) stored = was.stored_so_far.first in
+      let sizes = keeping_sizes named rows text _ rows' count text' was in
+      let c : count ≡ length stored = was.stored_so_far.count in
+      let next = place_is (ltb (length stored) (length named)) at (length (joined stored)) was.next_is in
+      let u : at ≡ length (joined stored) = next.1 in
+      let all : length named ≤ length stored = ltb-false (length stored) (length named) next.0 in
+      left_by (Some at) was
+      (fitting_on named (p ∷ []) (length rows) (length text) all
+      ∙ ap (λ qs. stored ++ qs) (no_fit (length rows - length stored) (length text - length (joined stored)) p []
+      (⊎_elim (λ (l : length text' < at + length p). inr (omega (arith, sizes, u))) (λ (l : length rows' ≤ count). inl (omega (arith, sizes, c))) why))
+      ∙ append-nil stored)
+
+-- A push
+
+-- one that is taken
 took :
-    {X : Type 0} (rows rows' : List X) (count count' : ℕ) (row : X) (r : Result (Unit {0}) (Full X))
-    → (told (λ u. u) handed_back r, rows', count') ≡ pushed rows count row → is_ok r ≡ true → (count < length rows) × (rows' ≡ set rows count row) × (count' ≡ count + 1)
-took rows rows' count count' row (Err f) h ok = let z : ◌≡◌ {A = ℕ} 0 1 = cc in absurd (omega arith)
-took rows rows' count count' row (Ok u) h ok =
+    {X : Type 0} (rows rows' : List X) (count count' : ℕ) (row : X) (r : Result (Unit {0}) (Full X)) (u : Unit {0})
+    → (told (λ u. u) handed_back r, rows', count') ≡ pushed rows count row → result_ok r ≡ Some u → (count < length rows) × (rows' ≡ set rows count row) × (count' ≡ count + 1)
+took rows rows' count count' row (Err f) u h ok = let z : ◌≡◌ {A = ℕ} 0 1 = cc in absurd (omega arith)
+took rows rows' count count' row (Ok v) u h ok =
     ⊎_elim
     (λ (l : count < length rows).
     let e = h ∙ cond-true (ltb count (length rows)) (Ok tt, set rows count row, count + 1) (Err (7, row), rows, count) (lt-ltb count (length rows) l) in
@@ -209,52 +228,60 @@ took rows rows' count count' row (Ok u) h ok =
     absurd (omega arith))
     (cases_lt count (length rows))
 
--- a push that is refused
+-- one that is refused
 refused :
     {X : Type 0} (rows rows' : List X) (count count' : ℕ) (row : X) (r : Result (Unit {0}) (Full X))
-    → IsPush rows count row (told (λ u. u) handed_back r) rows' count' → is_ok r ≡ false → (length rows ≤ count) × (rows' ≡ rows) × (count' ≡ count)
+    → IsPush rows count row (told (λ u. u) handed_back r) rows' count' → result_ok r ≡ None → (length rows ≤ count) × (rows' ≡ rows) × (count' ≡ count)
 refused rows rows' count count' row (Ok u) h ok = let z : ◌≡◌ {A = ℕ} 0 1 = cc in absurd (omega arith)
-refused rows rows' count count' row (Err f) h ok = (omega arith, h.2, h.3)
+refused rows rows' count count' row (Err g) h ok = (omega arith, h.2, h.3)
 
--- what holds before a line and what holds after it, whatever was named before
-abbrev pub KeepsOn : Kept → List PathRow → ℕ → List ℕ → Option (List ℕ) → Kept → List PathRow → ℕ → List ℕ → Type 0
-KeepsOn kept rows count text o kept' rows' count' text' =
-    (named : List (List ℕ)) (space : List PathRow) (area : List ℕ) → Keeping named space area kept rows count text → Keeping (named ++ listed o) space area kept' rows' count' text'
+-- Storing a path
 
-pub line_stored :
-    (kept : Kept) (rows : List PathRow) (count : ℕ) (text p part : List ℕ) (o : Option (List ℕ)) (r : Result (Unit {0}) (Full PathRow)) (rows' : List PathRow) (count' n k : ℕ)
-    → Some p ≡ o → kept.full ≡ false → kept.used + length p ≤ length text
-    → (told (λ u. u) handed_back r, rows', count') ≡ pushed rows count (record { at = kept.used; len = length p }) → is_ok r ≡ true
-    → n ≡ most (kept.named + 1) → k ≡ length p → part ≡ p
-    → KeepsOn kept rows count text o (record { named = n; used = kept.used + length p; full = false }) rows' count' (put_mid kept.used k text part)
-line_stored kept rows count text p part o r rows' count' n k e so room push ok ne ke pe named space area was =
-    let row : PathRow = record { at = kept.used; len = length p } in
-    let kept' : Kept = record { named = n; used = kept.used + length p; full = false } in
-    let text' : List ℕ = put_mid kept.used k text part in
-    let t = took rows rows' count count' row r push ok in
-    let more : Keeping (named ++ p ∷ []) space area kept' (set rows count row) (count + 1) text' =
-    keeping_more named space area kept rows count text p part n k was so room t.0 ne ke pe in
-    subst (λ q. Keeping (named ++ listed q) space area kept' rows' count' text') e
-    (subst (λ l. Keeping (named ++ p ∷ []) space area kept' l count' text') (sym t.1)
-    (subst (λ i. Keeping (named ++ p ∷ []) space area kept' (set rows count row) i text') (sym t.2) more))
+module _ (at : ℕ) (rows : List PathRow) (count : ℕ) (text p : List ℕ) where
+  abbrev row : PathRow
+  row = record { at = at; len = length p }
 
-pub line_left :
-    (kept : Kept) (rows : List PathRow) (count : ℕ) (text p : List ℕ) (o : Option (List ℕ)) (rows' : List PathRow) (count' n : ℕ)
-    → Some p ≡ o → (kept.full ≡ true) ⊎ ((length text < kept.used + length p) ⊎ (length rows ≤ count)) → rows' ≡ rows → count' ≡ count
-    → n ≡ most (kept.named + 1)
-    → KeepsOn kept rows count text o (record { named = n; used = kept.used; full = true }) rows' count' text
-line_left kept rows count text p o rows' count' n e why re ce ne named space area was =
-    let kept' : Kept = record { named = n; used = kept.used; full = true } in
-    subst (λ q. Keeping (named ++ listed q) space area kept' rows' count' text) e
-    (subst (λ l. Keeping (named ++ p ∷ []) space area kept' l count' text) (sym re)
-    (subst (λ i. Keeping (named ++ p ∷ []) space area kept' rows i text) (sym ce)
-    (keeping_left named space area kept rows count text p n was why ne)))
+  module _ (r : Result (Unit {0}) (Full PathRow)) (rows' : List PathRow) (count' : ℕ) where
+    pub path_stored : (k : ℕ) (u : Unit {0}) (part : List ℕ)
+        → at + length p ≤ length text → (told (λ u. u) handed_back r, rows', count') ≡ pushed rows count row → result_ok r ≡ Some u → k ≡ length p → part ≡ p
+        → KeepsPath (Some at) rows count text p (Some (at + length p)) rows' count' (put_mid at k text part)
+    path_stored k u part room push ok ke pe named space area m was =
+        let kept' : Kept = record { named = most (m + 1); next = Some (at + length p) } in
+        let t = took rows rows' count count' row r u push ok in
+        let more : Keeping (named ++ p ∷ []) space area kept' (set rows count row) (count + 1) (put_mid at k text part) = keeping_more named space area m rows count text p at part k was room t.0 ke pe in
+        subst (λ l. Keeping (named ++ p ∷ []) space area kept' l count' (put_mid at k text part)) (sym t.1)
+        (subst (λ i. Keeping (named ++ p ∷ []) space area kept' (set rows count row) i (put_mid at k text part)) (sym t.2) more)
 
-pub line_refused :
-    (kept : Kept) (rows : List PathRow) (count : ℕ) (text p : List ℕ) (o : Option (List ℕ)) (r : Result (Unit {0}) (Full PathRow)) (rows' : List PathRow) (count' n : ℕ)
-    → Some p ≡ o → IsPush rows count (record { at = kept.used; len = length p }) (told (λ u. u) handed_back r) rows' count' → is_ok r ≡ false
-    → n ≡ most (kept.named + 1)
-    → KeepsOn kept rows count text o (record { named = n; used = kept.used; full = true }) rows' count' text
-line_refused kept rows count text p o r rows' count' n e push ok ne =
-    let t = refused rows rows' count count' (record { at = kept.used; len = length p }) r push ok in
-    line_left kept rows count text p o rows' count' n e (inr (inr t.0)) t.1 t.2 ne
+    pub path_without_row : (next : Option ℕ) → next ≡ None → IsPush rows count row (told (λ u. u) handed_back r) rows' count' → result_ok r ≡ None
+        → KeepsPath (Some at) rows count text p next rows' count' text
+    path_without_row next none push err named space area m was =
+        let t = refused rows rows' count count' row r push err in
+        let kept' : Kept = record { named = most (m + 1); next = None } in
+        subst (λ o. Keeping (named ++ p ∷ []) space area (record { named = most (m + 1); next = o }) rows' count' text) (sym none)
+        (subst (λ l. Keeping (named ++ p ∷ []) space area kept' l count' text) (sym t.1)
+        (subst (λ i. Keeping (named ++ p ∷ []) space area kept' rows i text) (sym t.2) (keeping_left named space area m rows count text p at was (inr t.0))))
+
+  pub path_too_long : length text < at + length p → KeepsPath (Some at) rows count text p None rows count text
+  path_too_long long named space area m was = keeping_left named space area m rows count text p at was (inl long)
+
+-- A line
+
+pub line_passed : (kept : Kept) (rows : List PathRow) (count : ℕ) (text : List ℕ) (o : Option (List ℕ)) → None ≡ o → KeepsLine kept rows count text o kept rows count text
+line_passed kept rows count text o e named space area was =
+    subst (λ q. Keeping (named ++ listed q) space area kept rows count text) e (subst (λ ps. Keeping ps space area kept rows count text) (sym (append-nil named)) was)
+
+module _ (kept : Kept) (rows : List PathRow) (count : ℕ) (text p : List ℕ) (o : Option (List ℕ)) (some : Some p ≡ o) where
+  renamed : (next : Option ℕ) → kept.next ≡ next → {named : List (List ℕ)} {space : List PathRow} {area : List ℕ} → Keeping named space area kept rows count text
+      → Keeping named space area (record { named = kept.named; next = next }) rows count text
+  renamed next e {named} {space} {area} was = subst (λ x. Keeping named space area (record { named = kept.named; next = x }) rows count text) e was
+
+  pub line_stored : (n at : ℕ) (next : Option ℕ) (rows' : List PathRow) (count' : ℕ) (text' : List ℕ) → n ≡ most (kept.named + 1) → kept.next ≡ Some at
+      → KeepsPath (Some at) rows count text p next rows' count' text' → KeepsLine kept rows count text o (record { named = n; next = next }) rows' count' text'
+  line_stored n at next rows' count' text' ne e on named space area was =
+      subst (λ q. Keeping (named ++ listed q) space area (record { named = n; next = next }) rows' count' text') some
+      (subst (λ i. Keeping (named ++ p ∷ []) space area (record { named = i; next = next }) rows' count' text') (sym ne) (on named space area kept.named (renamed (Some at) e was)))
+
+  pub line_left : (n : ℕ) → n ≡ most (kept.named + 1) → kept.next ≡ None → KeepsLine kept rows count text o (record { named = n; next = None }) rows count text
+  line_left n ne e named space area was =
+      subst (λ q. Keeping (named ++ listed q) space area (record { named = n; next = None }) rows count text) some
+      (subst (λ i. Keeping (named ++ p ∷ []) space area (record { named = i; next = None }) rows count text) (sym ne) (keeping_stuck named space area kept.named rows count text p (renamed None e was)))

@@ -8,3 +8,4 @@ pub mod Listings
 pub mod ListNames
 pub mod ListLoop
 pub mod ListCalls
+pub mod Judging

@@ -1,20 +1,27 @@
 -- The calls of a listing, one after another.
-use Rattle.std.proofs.Common.{◌≡◌, ℕ, false, ltb, List, [], ◌∷◌, ◌++◌, length, Ok, Err, Result, sym, refl, ap, ◌∙◌, subst, arith}
+use Rattle.std.proofs.Common.{◌≡◌, ℕ, Bool, true, false, not, is_some, ltb, List, [], ◌∷◌, ◌++◌, length, Some, None, Ok, Err, Result, sym, refl, ap, ◌∙◌, subst, arith}
 use Rattle.std.proofs.lemmas.List.{append-nil}
 use Rattle.slices.specs.Answers.{told}
 use Rattle.packetline.specs.Packets.{Pkt, flush}
 use Rattle.host.specs.declared.fault.LineFault.{LineFault}
-use Rattle.host.specs.Talk.{Event, bytes_sent, bytes_given, Areas, then, send_all, Sight, Talks}
+use Rattle.host.specs.declared.peer.Peer.{Peer}
+use Rattle.host.specs.Worlds.{World}
+use Rattle.host.specs.Acts.{Log}
+use Rattle.host.specs.Peers.{seen, SameLent}
+use Rattle.process.specs.declared.area.StatusArea.{StatusArea}
+use Rattle.host.specs.Talk.{Event, bytes_sent, bytes_given, Areas, areas, then, send_all, Sight, sight, Talks}
 use Rattle.host.proofs.Talking.{talk_then, talk_stop}
 use Rattle.process.specs.declared.status.Status.{Status}
-use Rattle.client.specs.declared.paths.Counts.{Counts}
+use Rattle.client.specs.declared.paths.Kept.{Kept}
 use Rattle.client.specs.declared.paths.PathRow.{PathRow}
 use Rattle.client.specs.declared.listing.Listed.{Listed}
+use Rattle.client.specs.declared.listing.ListFault.{ListFault}
+use Rattle.client.specs.declared.listing.ListFault.TheVariants.{Full, Line}
 use Rattle.process.specs.Given.{ReadsAs}
 use Rattle.process.specs.Statuses.{read_status, first}
 use Rattle.client.specs.Paths.{paths_named, fitting, most, Stored}
 use Rattle.client.specs.Requests.{as_first, first_status, status_then}
-use Rattle.client.specs.Listings.{list_request, read_lines, lines_then, named_in, Stores, ReadsPaths, Lists}
+use Rattle.client.specs.Listings.{list_request, read_lines, lines_then, named_in, Counts, Stores, ReadsPaths, Lists}
 use Rattle.process.proofs.Passes.{AllSent, NoneGiven, send_all_passes, Told, told_by_talk}
 use Rattle.process.proofs.Tellings.{NoStatusPassed}
 use Rattle.client.proofs.Keeps.{keeping_none}
@@ -37,6 +44,21 @@ stores_same given given' rows text r rows' text' e s =
 stores_lost : (given : List ℕ) (rows : List PathRow) (text : List ℕ) (r : Result Counts LineFault) (rows' : List PathRow) (text' : List ℕ) (e : LineFault)
     → Stores given rows text r rows' text' → Stores given rows text (Err e) rows' text'
 stores_lost given rows text r rows' text' e s = record { many = s.many; stored = s.stored; counts = λ c q. let z : ◌≡◌ {A = ℕ} 0 1 = cc in absurd (omega arith) }
+
+-- what was read of the paths, with the process that was held before
+pub later_paths : {H : Type 0} {p p₁ : Peer H} {rows : List PathRow} {text : List ℕ} {w w' : Sight} {a a' : Areas} {r : Result (Kept × ℕ) LineFault} {rows' : List PathRow} {text' : List ℕ}
+    → SameLent p p₁ → ReadsPaths rows text w p₁.process a r w' a' rows' text' → ReadsPaths rows text w p.process a r w' a' rows' text'
+later_paths {rows = rows} {text = text} {w = w} {w' = w'} {a = a} {a' = a'} {r = r} {rows' = rows'} {text' = text'} same q =
+    subst (λ n. ReadsPaths rows text w n a r w' a' rows' text') same.process q
+
+-- what a caller knows of the host and the areas that he lent, once the peer is gone
+pub back_lists : {H : Type 0} (log : H → Log) (world : H → World) (p' : Peer H) (s' : StatusArea) {rows : List PathRow} {text : List ℕ} {w : Sight} {n : ℕ} {a : Areas} {r : Result Listed ListFault} {rows' : List PathRow}
+    {text' : List ℕ} (host : H) (work status : List ℕ) → Lists rows text w n a r (seen log world p') (areas p'.work.now s'.bytes.now) rows' text' → host ≡ p'.host.now → work ≡ p'.work.now → status ≡ s'.bytes.now
+    → Lists rows text w n a r (sight (log host) (world host)) (areas work status) rows' text'
+back_lists log world p' s' {rows} {text} {w} {n} {a} {r} {rows'} {text'} host work status q h k e =
+    subst (λ x. Lists rows text w n a r (sight (log x) (world x)) (areas work status) rows' text') (sym h)
+    (subst (λ x. Lists rows text w n a r (seen log world p') (areas x status) rows' text') (sym k)
+    (subst (λ x. Lists rows text w n a r (seen log world p') (areas p'.work.now x) rows' text') (sym e) q))
 
 -- What each call gave
 
@@ -69,7 +91,7 @@ first_talk (Err e) t = talk_stop as_first e t
 -- The whole
 
 module _ (rows : List PathRow) (text : List ℕ) (w : Sight) (p : ℕ) (a : Areas) (w₁ : Sight) (a₁ : Areas) where
-  pub list_refused : (r : Result Listed LineFault) (e : LineFault) → Talks (send_all list_request) w p a (Err e) w₁ a₁ → r ≡ Err e → Lists rows text w p a r w₁ a₁ rows text
+  pub list_refused : (r : Result Listed ListFault) (e : LineFault) → Talks (send_all list_request) w p a (Err e) w₁ a₁ → r ≡ Err (Line e) → Lists rows text w p a r w₁ a₁ rows text
   unfolding talk_stop
   list_refused r e s is =
       let t = talk_stop lines_then e s in
@@ -77,7 +99,7 @@ module _ (rows : List PathRow) (text : List ℕ) (w : Sight) (p : ℕ) (a : Area
       subst (λ x. Lists rows text w p a x w₁ a₁ rows text) (sym is)
       (record {
         talks = (t, list_talk t);
-        stores = stores_by (bytes_given s.events) [] rows rows text (record { named = 0; used = 0; full = false }) rows rows 0 text (Err e) none (keeping_none rows text) refl refl
+        stores = stores_by (bytes_given s.events) [] rows rows text (record { named = 0; next = Some 0 }) rows rows 0 text (Err e) none (keeping_none rows text) refl refl
             (λ c q. let z : ◌≡◌ {A = ℕ} 0 1 = cc in absurd (omega arith));
       })
 
@@ -89,7 +111,7 @@ module _ (rows : List PathRow) (text : List ℕ) (w : Sight) (p : ℕ) (a : Area
         ∙ named_after (bytes_given s.events) (bytes_given es)
         (sent_none (bytes_sent s.events) (bytes_given s.events) u (told_by_talk (AllSent list_request) NoneGiven (send_all list_request) (send_all_passes list_request) s)))
 
-    pub list_lost : (r : Result Listed LineFault) (e : LineFault) → ReadsPaths rows text w₁ p a₁ (Err e) w₂ a₂ rows' text' → r ≡ Err e → Lists rows text w p a r w₂ a₂ rows' text'
+    pub list_lost : (r : Result Listed ListFault) (e : LineFault) → ReadsPaths rows text w₁ p a₁ (Err e) w₂ a₂ rows' text' → r ≡ Err (Line e) → Lists rows text w p a r w₂ a₂ rows' text'
     unfolding talk_then talk_stop
     list_lost r e q is =
         let t = talk_then lines_then u s (talk_stop status_then e q.talks) in
@@ -99,7 +121,7 @@ module _ (rows : List PathRow) (text : List ℕ) (w : Sight) (p : ℕ) (a : Area
           stores = stores_same (bytes_given q.talks.events) (bytes_given (q.talks.events ++ s.events)) rows text (Err e) rows' text' (after_sent q.talks.events) q.stores;
         })
 
-    module _ (c : Counts) (q : ReadsPaths rows text w₁ p a₁ (Ok c) w₂ a₂ rows' text') (w₃ : Sight) (a₃ : Areas) where
+    module _ (k : Kept) (n : ℕ) (q : ReadsPaths rows text w₁ p a₁ (Ok (k, n)) w₂ a₂ rows' text') (w₃ : Sight) (a₃ : Areas) where
       -- what follows the flush names nothing
       after_lines : (es : List Event) → named_in (bytes_given q.talks.events) ≡ named_in (bytes_given ((es ++ q.talks.events) ++ s.events))
       after_lines es =
@@ -108,7 +130,7 @@ module _ (rows : List PathRow) (text : List ℕ) (w : Sight) (p : ℕ) (a : Area
           ∙ ap named_in (sym (given_append es q.talks.events))
           ∙ after_sent (es ++ q.talks.events)
 
-      pub list_untold : (r : Result Listed LineFault) (e : LineFault) → Talks read_status w₂ p a₂ (Err e) w₃ a₃ → r ≡ Err e → Lists rows text w p a r w₃ a₃ rows' text'
+      pub list_untold : (r : Result Listed ListFault) (e : LineFault) → Talks read_status w₂ p a₂ (Err e) w₃ a₃ → r ≡ Err (Line e) → Lists rows text w p a r w₃ a₃ rows' text'
       unfolding talk_then
       list_untold r e f is =
           let h = first_talk (Err e) f in
@@ -117,17 +139,36 @@ module _ (rows : List PathRow) (text : List ℕ) (w : Sight) (p : ℕ) (a : Area
           (record {
             talks = (t, list_talk t);
             stores = stores_same (bytes_given q.talks.events) (bytes_given ((h.events ++ q.talks.events) ++ s.events)) rows text (Err e) rows' text' (after_lines h.events)
-                (stores_lost (bytes_given q.talks.events) rows text (Ok c) rows' text' e q.stores);
+                (stores_lost (bytes_given q.talks.events) rows text _ rows' text' e q.stores);
           })
 
-      pub list_told : (s₀ s₁ : Status) → Talks read_status w₂ p a₂ (Ok s₀) w₃ a₃ → s₁ ≡ first s₀
-          → Lists rows text w p a (Ok (record { status = s₁; named = c.named; stored = c.stored; full = c.full })) w₃ a₃ rows' text'
-      unfolding talk_then
-      list_told s₀ s₁ f is =
-          let h = first_talk (Ok s₀) f in
-          let t = talk_then lines_then u s (talk_then status_then tt q.talks h) in
-          subst (λ (x : Status). Lists rows text w p a (Ok (record { status = x; named = c.named; stored = c.stored; full = c.full })) w₃ a₃ rows' text') (sym is)
-          (record {
-            talks = (t, list_talk t);
-            stores = stores_same (bytes_given q.talks.events) (bytes_given ((h.events ++ q.talks.events) ++ s.events)) rows text (Ok c) rows' text' (after_lines h.events) q.stores;
-          })
+      abbrev told_as : Status → Listed
+      told_as x = record { status = x; named = k.named; stored = n }
+
+      -- an answer, where each path found space, and where one did not
+      module _ (s₀ s₁ : Status) (f : Talks read_status w₂ p a₂ (Ok s₀) w₃ a₃) (is : s₁ ≡ first s₀) where
+        pub list_told : (at : ℕ) → k.next ≡ Some at → Lists rows text w p a (Ok (told_as s₁)) w₃ a₃ rows' text'
+        unfolding talk_then
+        list_told at e =
+            let h = first_talk (Ok s₀) f in
+            let t = talk_then lines_then u s (talk_then status_then tt q.talks h) in
+            let c : Counts = record { named = k.named; stored = n; full = false } in
+            subst (λ (x : Status). Lists rows text w p a (Ok (told_as x)) w₃ a₃ rows' text') (sym is)
+            (record {
+              talks = (t, list_talk t);
+              stores = stores_same (bytes_given q.talks.events) (bytes_given ((h.events ++ q.talks.events) ++ s.events)) rows text (Ok c) rows' text' (after_lines h.events)
+                  (subst (λ (b : Bool). Stores (bytes_given q.talks.events) rows text (Ok (record { named = k.named; stored = n; full = b })) rows' text') (ap (λ o. not (is_some o)) e) q.stores);
+            })
+
+        pub list_full : k.next ≡ None → Lists rows text w p a (Err (Full (told_as s₁))) w₃ a₃ rows' text'
+        unfolding talk_then
+        list_full e =
+            let h = first_talk (Ok s₀) f in
+            let t = talk_then lines_then u s (talk_then status_then tt q.talks h) in
+            let c : Counts = record { named = k.named; stored = n; full = true } in
+            subst (λ (x : Status). Lists rows text w p a (Err (Full (told_as x))) w₃ a₃ rows' text') (sym is)
+            (record {
+              talks = (t, list_talk t);
+              stores = stores_same (bytes_given q.talks.events) (bytes_given ((h.events ++ q.talks.events) ++ s.events)) rows text (Ok c) rows' text' (after_lines h.events)
+                  (subst (λ (b : Bool). Stores (bytes_given q.talks.events) rows text (Ok (record { named = k.named; stored = n; full = b })) rows' text') (ap (λ o. not (is_some o)) e) q.stores);
+            })

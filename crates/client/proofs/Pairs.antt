@@ -1,5 +1,6 @@
 -- Lines `key=value` that can be sent.
 use Rattle.std.proofs.Common.{◌≡◌, ℕ, zero, suc, ◌+◌, ◌<◌, ◌≤◌, Bool, true, false, ◌&&◌, leb, List, [], ◌∷◌, ◌++◌, map, length, get_or, drop, sym, refl, ap, ◌∙◌, arith, length-append}
+use Rattle.std.specs.List.{list_all}
 use Rattle.std.proofs.lemmas.Bool.{le-leb, leb-true, and_parts, and_from, and_left, and_right}
 use Rattle.packetline.specs.Packets.{Pkt, flush, line_pkt, sendable, all_sendable}
 use Rattle.client.specs.declared.invoke.Meta.{Meta}
@@ -48,14 +49,11 @@ meta_short command ms i h k =
     pair_short (get_or ms i no_meta).key.now (get_or ms i no_meta).value.now
     (each_sendable ms i (and_parts (sendable (command_line command)) (all_sendable (meta_from 0 ms)) h).1 k)
 
--- Judging lines one after another
+-- Judging all lines
 
-module _ (ms : List Meta) (i : ℕ) (on : all_sendable (meta_from 0 ms) ≡ all_sendable (meta_from i ms)) where
-  pub row_refused : i < length ms → false ≡ sendable (meta_line (get_or ms i no_meta)) → (b : Bool) → false ≡ (b && all_sendable (meta_from 0 ms))
-  row_refused h is b = sym (and_right b (all_sendable (meta_from 0 ms)) (on ∙ ap all_sendable (meta_next ms i h) ∙ and_left _ (all_sendable (meta_from (i + 1) ms)) (sym is)))
+pub lines_all : (ms : List Meta) → list_all (λ m. sendable (meta_line m)) ms ≡ all_sendable (meta_from 0 ms)
+lines_all [] = refl
+lines_all (m ∷ ms) = ap (λ b. sendable (meta_line m) && b) (lines_all ms)
 
-  pub row_fits : i < length ms → true ≡ sendable (meta_line (get_or ms i no_meta)) → all_sendable (meta_from 0 ms) ≡ all_sendable (meta_from (i + 1) ms)
-  row_fits h is = on ∙ ap all_sendable (meta_next ms i h) ∙ ap (λ b. b && all_sendable (meta_from (i + 1) ms)) (sym is)
-
-  pub rows_fit : length ms ≤ i → (b : Bool) → true ≡ b → true ≡ (b && all_sendable (meta_from 0 ms))
-  rows_fit h b is = sym (and_from b (all_sendable (meta_from 0 ms)) (sym is) (on ∙ ap all_sendable (meta_last ms i h)))
+pub request_all : (command : List ℕ) (ms : List Meta) (b : Bool) → true ≡ sendable (command_line command) → b ≡ list_all (λ m. sendable (meta_line m)) ms → b ≡ all_sendable (request command ms)
+request_all command ms b first rest = rest ∙ lines_all ms ∙ ap (λ c. c && all_sendable (meta_from 0 ms)) first

@@ -3,8 +3,15 @@ use Rattle.std.proofs.Common.{◌≡◌, ℕ, List, [], ◌∷◌, ◌++◌, tak
 use Rattle.std.proofs.lemmas.List.{append-nil}
 use Rattle.slices.specs.Answers.{told}
 use Rattle.packetline.specs.Packets.{Pkt, flush, line, Decoded, packets, flushes_of}
+use Rattle.host.specs.declared.peer.Peer.{Peer}
+use Rattle.host.specs.Worlds.{World}
+use Rattle.host.specs.Acts.{Log}
+use Rattle.host.specs.Peers.{seen}
+use Rattle.process.specs.declared.area.StatusArea.{StatusArea}
+use Rattle.process.specs.Peers.{DoesWith}
+use Rattle.process.proofs.Peering.{back_with}
 use Rattle.host.specs.declared.fault.LineFault.{LineFault}
-use Rattle.host.specs.Talk.{bytes_sent, bytes_given, Areas, areas, Wire, read_content, shown_part, Sight, Talks, Works}
+use Rattle.host.specs.Talk.{bytes_sent, bytes_given, Areas, areas, Wire, read_content, shown_part, Sight, sight, Talks, Works}
 use Rattle.host.proofs.Talking.{talk_none, talk_then, talk_stop, talk_is}
 use Rattle.client.specs.declared.result.Output.{Output}
 use Rattle.client.specs.declared.result.Output.TheVariants.{Payload, Final}
@@ -106,3 +113,11 @@ module _ (w : Sight) (p : ℕ) (work status : List ℕ) (w₁ : Sight) (work₁ 
 
       pub piece_final : (st : Status) → TalksBy StatusLaw read_status w₁ p (areas work₁ status) (Ok st) w₂ (areas work₂ status₂) → Goes w p (areas work status) (Ok (Final st)) w₂ work₂ status₂
       piece_final st t = piece_talk (talk_then final_then None at_flush (talk_then as_final st t.0 (talk_none (Ok (final st)) w₂ p (areas work₂ status₂))))
+
+-- what a caller knows of the host and the areas that he lent, once the peer is gone
+pub back_piece : {H : Type 0} (log : H → Log) (world : H → World) {p p' : Peer H} {s s' : StatusArea} (host : H) (work status : List ℕ) (r : Result Output LineFault)
+    → DoesWith log world PieceLaw read_piece p s (told (piece_of p'.work.now) (λ f. f) r) p' s' → host ≡ p'.host.now → work ≡ p'.work.now → status ≡ s'.bytes.now
+    → TalksBy PieceLaw read_piece (seen log world p) p.process (areas p.work.now s.bytes.now) (told (piece_of work) (λ f. f) r) (sight (log host) (world host)) (areas work status)
+back_piece log world {p} {p'} {s} {s'} host work status r d h w e =
+    subst (λ x. TalksBy PieceLaw read_piece (seen log world p) p.process (areas p.work.now s.bytes.now) (told (piece_of x) (λ f. f) r) (sight (log host) (world host)) (areas work status)) (sym w)
+    (back_with log world host work status d h w e)

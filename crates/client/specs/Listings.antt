@@ -1,5 +1,5 @@
 -- A listing: the process names the paths that it can answer now.
-use Rattle.std.specs.Prelude.{◌≡◌, ℕ, true, false, List, [], ◌∷◌, ◌++◌, length, Ok, Err, codes, Result, nat_lt}
+use Rattle.std.specs.Prelude.{◌≡◌, ℕ, Bool, true, false, not, List, [], ◌∷◌, ◌++◌, length, is_some, Ok, Err, codes, Result, nat_lt}
 use Rattle.slices.specs.Answers.{told}
 use Rattle.packetline.specs.Packets.{Pkt, flush, delimiter, response_end, line, line_pkt, packets, decode, flushes_of}
 use Rattle.host.specs.declared.fault.LineFault.{LineFault}
@@ -7,12 +7,12 @@ use Rattle.host.specs.Faults.{line_number}
 use Rattle.host.specs.Talk.{bytes_given, Areas, Wire, Got, then, send_all, read, Sight, Talks}
 use Rattle.process.specs.declared.status.Status.{Status}
 use Rattle.client.specs.declared.paths.PathRow.{PathRow}
-use Rattle.client.specs.declared.paths.Counts.{Counts}
+use Rattle.client.specs.declared.paths.Kept.{Kept}
 use Rattle.client.specs.declared.listing.Listed.{Listed}
-use Rattle.client.specs.declared.listing.Error.{Error}
-use Rattle.client.specs.declared.listing.Error.TheVariants.{AreaTooShort, Full, Line}
+use Rattle.client.specs.declared.listing.ListFault.{ListFault}
+use Rattle.client.specs.declared.listing.ListFault.TheVariants.{Full, Line}
 use Rattle.process.specs.Gather.{Turn, goes, stops, gather}
-use Rattle.process.specs.Given.{ReadsAs, TalksBy, Judged, at_fault, went}
+use Rattle.process.specs.Given.{ReadsAs, TalksBy}
 use Rattle.client.specs.Requests.{status_then}
 use Rattle.process.specs.Statuses.{first, StatusLines}
 use Rattle.client.specs.Paths.{paths_named, fitting, most, Stored}
@@ -52,6 +52,12 @@ pub record ListLaw (sent given : List ℕ) (r : Result Status LineFault) : Type 
 abbrev pub named_in : List ℕ → List (List ℕ)
 named_in given = paths_named (decode given).packets
 
+-- how many paths were named, how many are stored, and whether one of them found no space
+pub record Counts : Type 0 where
+  pub named : ℕ
+  pub stored : ℕ
+  pub full : Bool
+
 -- On every outcome, a fault too, the paths named in what was given are stored as far as there is space. An answer tells how many were named, how many
 -- are stored, and whether one of them found no space.
 pub record Stores (given : List ℕ) (rows : List PathRow) (text : List ℕ) (r : Result Counts LineFault) (rows' : List PathRow) (text' : List ℕ) : Type 0 where
@@ -60,34 +66,35 @@ pub record Stores (given : List ℕ) (rows : List PathRow) (text : List ℕ) (r 
   pub counts : (c : Counts) → r ≡ Ok c
       → (c.named ≡ most (length (named_in given))) × (c.stored ≡ many) × (c.full ≡ nat_lt (length (fitting (length rows) (length text) (named_in given))) (length (named_in given)))
 
--- what is read of a listing up to the flush
-pub record ReadsPaths (rows : List PathRow) (text : List ℕ) (w : Sight) (p : ℕ) (a : Areas) (r : Result Counts LineFault) (w' : Sight) (a' : Areas) (rows' : List PathRow) (text' : List ℕ) : Type 0 where
-  pub talks : Talks read_lines w p a (told (λ _. tt) (λ f. f) r) w' a'
-  pub stores : Stores (bytes_given talks.events) rows text r rows' text'
+-- what a reader of paths tells: where nothing can be stored any more a path found no space
+abbrev pub kept_counts : Kept × ℕ → Counts
+kept_counts k = record { named = k.0.named; stored = k.1; full = not (is_some k.0.next) }
 
-abbrev pub counts_of : Listed → Counts
-counts_of l = record { named = l.named; stored = l.stored; full = l.full }
+-- what is read of a listing up to the flush
+pub record ReadsPaths (rows : List PathRow) (text : List ℕ) (w : Sight) (p : ℕ) (a : Areas) (r : Result (Kept × ℕ) LineFault) (w' : Sight) (a' : Areas) (rows' : List PathRow) (text' : List ℕ) : Type 0 where
+  pub talks : Talks read_lines w p a (told (λ _. tt) (λ f. f) r) w' a'
+  pub stores : Stores (bytes_given talks.events) rows text (told kept_counts (λ f. f) r) rows' text'
+
+-- 7 is answered exactly if a path found no space, and with the status as any other answer
+abbrev pub list_status : Result Listed ListFault → Result Status LineFault
+list_status (Ok l) = Ok l.status
+list_status (Err (Full l)) = Ok l.status
+list_status (Err (Line f)) = Err f
+
+abbrev pub counts_of : Bool → Listed → Counts
+counts_of full l = record { named = l.named; stored = l.stored; full = full }
+
+abbrev pub list_counts : Result Listed ListFault → Result Counts LineFault
+list_counts (Ok l) = Ok (counts_of false l)
+list_counts (Err (Full l)) = Ok (counts_of true l)
+list_counts (Err (Line f)) = Err f
 
 -- a listing: its status, and the paths
-pub record Lists (rows : List PathRow) (text : List ℕ) (w : Sight) (p : ℕ) (a : Areas) (r : Result Listed LineFault) (w' : Sight) (a' : Areas) (rows' : List PathRow) (text' : List ℕ) : Type 0 where
-  pub talks : TalksBy ListLaw listing w p a (told (λ l. l.status) (λ f. f) r) w' a'
-  pub stores : Stores (bytes_given talks.0.events) rows text (told counts_of (λ f. f) r) rows' text'
+pub record Lists (rows : List PathRow) (text : List ℕ) (w : Sight) (p : ℕ) (a : Areas) (r : Result Listed ListFault) (w' : Sight) (a' : Areas) (rows' : List PathRow) (text' : List ℕ) : Type 0 where
+  pub talks : TalksBy ListLaw listing w p a (list_status r) w' a'
+  pub stores : Stores (bytes_given talks.0.events) rows text (list_counts r) rows' text'
 
 -- the number of each case; 7 comes with what was listed, how many paths were named and how many are stored
-abbrev pub list_number : Error → ℕ
-list_number AreaTooShort = 1
+abbrev pub list_number : ListFault → ℕ
 list_number (Full l) = 7
 list_number (Line f) = line_number f
-
-abbrev pub list_told : Result Listed Error → Judged Listed
-list_told (Ok l) = went (Ok l)
-list_told (Err AreaTooShort) = at_fault (list_number AreaTooShort)
-list_told (Err (Full l)) = went (Ok l)
-list_told (Err (Line f)) = went (Err f)
-
--- 7 is answered exactly if a path found no space
-abbrev pub Seven : Result Listed Error → Type 0
-Seven (Ok l) = l.full ≡ false
-Seven (Err AreaTooShort) = Unit {0}
-Seven (Err (Full l)) = l.full ≡ true
-Seven (Err (Line f)) = Unit {0}

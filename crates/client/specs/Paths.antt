@@ -70,10 +70,23 @@ pub record Stored (named : List (List ℕ)) (rows : List PathRow) (text : List �
 abbrev pub most : ℕ → ℕ
 most n = min n (2 ^ 64 - 1)
 
--- What a listing keeps while it reads, where the paths were named so far: what is stored of them, how many they are, how many bytes of the text area
--- are used, and whether one of them found no space.
+-- where the next path goes: behind those that are stored, unless one of the paths named so far found no space
+abbrev pub next_place : ℕ → ℕ → List (List ℕ) → Option ℕ
+next_place rows room named = cond (nat_lt (length (fitting rows room named)) (length named)) None (Some (length (joined (fitting rows room named))))
+
+-- What a listing keeps while it reads, where the paths were named so far: what is stored of them, how many they are, and where the next one goes.
 pub record Keeping (named : List (List ℕ)) (rows : List PathRow) (text : List ℕ) (kept : Kept) (rows' : List PathRow) (count : ℕ) (text' : List ℕ) : Type 0 where
   pub stored_so_far : Stored named rows text count rows' text'
   pub counted : kept.named ≡ most (length named)
-  pub used_is : kept.used ≡ length (joined (fitting (length rows) (length text) named))
-  pub full_is : kept.full ≡ nat_lt (length (fitting (length rows) (length text) named)) (length named)
+  pub next_is : kept.next ≡ next_place (length rows) (length text) named
+
+-- one path more, whatever was named before
+abbrev pub KeepsPath : Option ℕ → List PathRow → ℕ → List ℕ → List ℕ → Option ℕ → List PathRow → ℕ → List ℕ → Type 0
+KeepsPath next rows count text path next' rows' count' text' =
+    (named : List (List ℕ)) (space : List PathRow) (area : List ℕ) (n : ℕ) → Keeping named space area (record { named = n; next = next }) rows count text
+    → Keeping (named ++ path ∷ []) space area (record { named = most (n + 1); next = next' }) rows' count' text'
+
+-- one line more, whatever was named before
+abbrev pub KeepsLine : Kept → List PathRow → ℕ → List ℕ → Option (List ℕ) → Kept → List PathRow → ℕ → List ℕ → Type 0
+KeepsLine kept rows count text path kept' rows' count' text' =
+    (named : List (List ℕ)) (space : List PathRow) (area : List ℕ) → Keeping named space area kept rows count text → Keeping (named ++ listed path) space area kept' rows' count' text'

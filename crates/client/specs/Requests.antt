@@ -1,15 +1,14 @@
 -- An exchange: a command in lines, its content in packets, and the status that the process answers.
 use Rattle.std.specs.Prelude.{◌≡◌, ℕ, cond, ◌&&◌, List, [], ◌∷◌, ◌++◌, map, length, Some, None, Ok, Err, codes, Option, Result, nat_le}
+use Rattle.packetline.specs.declared.encode.Error.{Error as Misuse}
+use Rattle.packetline.specs.declared.encode.Error.TheVariants.{AreaTooShort as Short, OutsideLimits}
 use Rattle.packetline.specs.Packets.{Pkt, flush, line, line_pkt, packets, all_sendable}
 use Rattle.host.specs.declared.fault.LineFault.{LineFault}
-use Rattle.host.specs.Faults.{line_number}
 use Rattle.host.specs.Parts.{parts}
 use Rattle.host.specs.Talk.{Wire, Got, got, then, send_all}
-use Rattle.client.specs.declared.invoke.Error.{Error}
-use Rattle.client.specs.declared.invoke.Error.TheVariants.{AreaTooShort, OutsideLimits, Line}
 use Rattle.client.specs.declared.invoke.Meta.{Meta}
 use Rattle.process.specs.declared.status.Status.{Status}
-use Rattle.process.specs.Given.{ReadsAs, Judged, at_fault, went}
+use Rattle.process.specs.Given.{ReadsAs}
 use Rattle.process.specs.Statuses.{first, read_status, StatusLines}
 
 -- What the client says
@@ -56,19 +55,7 @@ pub record InvokeLaw (command : List ℕ) (ms : List Meta) (content sent given :
   pub only : (s : Status) → r ≡ Ok s → (ps : List Pkt) × ((s₀ : Status) × ReadsAs given ps × StatusLines ps s₀ × (s ≡ first s₀))
   pub all : (ps : List Pkt) (s₀ : Status) → ReadsAs given ps → StatusLines ps s₀ → r ≡ Ok (first s₀)
 
--- the number of each case
-abbrev pub invoke_number : Error → ℕ
-invoke_number AreaTooShort = 1
-invoke_number OutsideLimits = 2
-invoke_number (Line f) = line_number f
-
-abbrev pub invoke_told : Result Status Error → Judged Status
-invoke_told (Ok s) = went (Ok s)
-invoke_told (Err AreaTooShort) = at_fault (invoke_number AreaTooShort)
-invoke_told (Err OutsideLimits) = at_fault (invoke_number OutsideLimits)
-invoke_told (Err (Line f)) = went (Err f)
-
 -- the fault of a caller who invokes a command: 1 where an area is too short, 2 where a line of it cannot be sent
-abbrev pub invoke_fault : List ℕ → List ℕ → List ℕ → List Meta → Option ℕ
+abbrev pub invoke_fault : List ℕ → List ℕ → List ℕ → List Meta → Option Misuse
 invoke_fault work status command ms =
-    cond (nat_le 65520 (length work) && nat_le 128 (length status)) (cond (all_sendable (request command ms)) None (Some 2)) (Some 1)
+    cond (nat_le 65520 (length work) && nat_le 128 (length status)) (cond (all_sendable (request command ms)) None (Some OutsideLimits)) (Some Short)

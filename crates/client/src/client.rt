@@ -2,32 +2,34 @@
 ghost use Rattle.std.specs.Prelude.{◌≡◌, ◌≤◌, IfOk};
 ghost use Rattle.slices.specs.Answers.{told};
 ghost use Rattle.slices.specs.Names.{name_bytes};
-ghost use Rattle.host.specs.Calls.{Checked, read_why};
+ghost use Rattle.host.specs.Calls.{Checked};
 ghost use Rattle.host.specs.Talk.{sight, areas};
-ghost use Rattle.process.specs.Given.{TalksBy, WorksBy, Called, rooms};
-ghost use Rattle.handshake.specs.Handshakes.{handshake as handshaken, HandshakeLaw};
-ghost use Rattle.client.specs.Greetings.{handshake_told, handshake_fault};
-ghost use Rattle.client.specs.Listings.{Lists, list_told, Seven};
-ghost use Rattle.client.specs.Requests.{invoked, InvokeLaw, invoke_told, invoke_fault};
+ghost use Rattle.process.specs.Given.{TalksBy, WorksBy, rooms};
+ghost use Rattle.handshake.specs.Handshakes.{handshake as handshaken, heard, HandshakeLaw};
+ghost use Rattle.client.specs.Greetings.{shaken_with, handshake_fault};
+ghost use Rattle.client.specs.Listings.{Lists};
+ghost use Rattle.client.specs.Requests.{invoked, InvokeLaw, invoke_fault};
 ghost use Rattle.client.specs.Results.{read_piece, piece_of, output_length, PieceLaw};
 ghost use Rattle.process.specs.Statuses.{read_status, StatusLaw};
 
+use crate::greeting::GreetingError;
+use crate::inner;
 use crate::invoke::{Meta, are_sendable};
-use crate::listing::Listed;
+use crate::listing::{ListError, Listed};
 use crate::paths::PathRow;
 use crate::result::Output;
-use crate::{greeting, inner, invoke, listing};
 use handshake::inner::handshake as shake_hands;
+use host::call::{AreaError, AreaTooShort, CallError};
 use host::host::Host;
 use host::inner::MAX_LINE_LEN;
-use host::reading::ReadError;
+use host::peer::Peer;
+use host::sending::SendError;
+use packetline::encode;
+use process::area::{MAX_STATUS_LEN, StatusArea};
 use process::capabilities::Capabilities;
 use process::inner::read_status;
 use process::status::Status;
 use slices::name::Name;
-
-/// The least length of a status area: as many bytes of a status name are laid there.
-pub const MAX_STATUS_LEN: usize = 128;
 
 /// The greatest number of versions that a client offers.
 pub const MAX_VERSIONS: usize = 16;
@@ -52,17 +54,22 @@ impl Client {
         prefix: &Name,
         versions: &[u64],
         names: &[Name],
-    ) -> Result<Client, greeting::Error>
-        ensures goes { Called (handshake_fault work.old versions.now names.now) (λ x. WorksBy (HandshakeLaw (name_bytes prefix.now) versions.now names.now) (handshaken (name_bytes prefix.now) versions.now names.now) (sight (H.log host.old) (H.world host.old)) process work.old x (sight (H.log host.new) (H.world host.new)) work.new) ((host.new ≡ host.old) × (work.new ≡ work.old)) (handshake_told result) }
+    ) -> Result<Client, GreetingError>
+        ensures goes { Checked (handshake_fault work.old versions.now names.now) (λ x. WorksBy (HandshakeLaw (name_bytes prefix.now) versions.now names.now) (handshaken (name_bytes prefix.now) versions.now names.now) (sight (H.log host.old) (H.world host.old)) process work.old (heard shaken_with x) (sight (H.log host.new) (H.world host.new)) work.new) ((host.new ≡ host.old) × (work.new ≡ work.old)) result }
         ensures itself { IfOk result (λ c. c.process ≡ process) }
     {
         if work.len() < MAX_LINE_LEN {
-            return Err(greeting::Error::AreaTooShort);
+            return Err(CallError::Caller(encode::Error::AreaTooShort));
         }
         if versions.len() > MAX_VERSIONS || names.len() > MAX_NAMES {
-            return Err(greeting::Error::OutsideLimits);
+            return Err(CallError::Caller(encode::Error::OutsideLimits));
         }
-        let agreed = shake_hands(host, process, work, prefix, versions, names)?;
+        let mut peer = Peer {
+            host,
+            process,
+            work,
+        };
+        let agreed = shake_hands(&mut peer, prefix, versions, names)?;
         Ok(Client {
             process,
             version: agreed.version,
@@ -79,16 +86,23 @@ impl Client {
         command: &[u8],
         meta: &[Meta<'_>],
         content: &[u8],
-    ) -> Result<Status, invoke::Error>
-        ensures { Called (invoke_fault work.old status.old command.now meta.now) (λ x. TalksBy (InvokeLaw command.now meta.now content.now) (invoked command.now meta.now content.now) (sight (H.log host.old) (H.world host.old)) self.process (areas work.old status.old) x (sight (H.log host.new) (H.world host.new)) (areas work.new status.new)) ((host.new ≡ host.old) × (work.new ≡ work.old) × (status.new ≡ status.old)) (invoke_told result) }
+    ) -> Result<Status, SendError>
+        ensures { Checked (invoke_fault work.old status.old command.now meta.now) (λ x. TalksBy (InvokeLaw command.now meta.now content.now) (invoked command.now meta.now content.now) (sight (H.log host.old) (H.world host.old)) self.process (areas work.old status.old) x (sight (H.log host.new) (H.world host.new)) (areas work.new status.new)) ((host.new ≡ host.old) × (work.new ≡ work.old) × (status.new ≡ status.old)) result }
     {
         if work.len() < MAX_LINE_LEN || status.len() < MAX_STATUS_LEN {
-            return Err(invoke::Error::AreaTooShort);
+            return Err(CallError::Caller(encode::Error::AreaTooShort));
         }
         if !are_sendable(command, meta) {
-            return Err(invoke::Error::OutsideLimits);
+            return Err(CallError::Caller(encode::Error::OutsideLimits));
         }
-        Ok(inner::invoke(host, self.process, work, status, command, meta, content)?)
+        let process = self.process;
+        let mut peer = Peer {
+            host,
+            process,
+            work,
+        };
+        let mut status = StatusArea { bytes: status };
+        Ok(inner::invoke(&mut peer, &mut status, command, meta, content)?)
     }
 
     /// Lists the paths that the process can answer now: the text area holds them one behind the other, and the rows say where.
@@ -99,18 +113,20 @@ impl Client {
         status: &mut [u8],
         rows: &mut [PathRow],
         text: &mut [u8],
-    ) -> Result<Listed, listing::Error>
-        ensures goes { Called (rooms work.old status.old) (λ x. Lists rows.old text.old (sight (H.log host.old) (H.world host.old)) self.process (areas work.old status.old) x (sight (H.log host.new) (H.world host.new)) (areas work.new status.new) rows.new text.new) ((host.new ≡ host.old) × (work.new ≡ work.old) × (status.new ≡ status.old) × (rows.new ≡ rows.old) × (text.new ≡ text.old)) (list_told result) }
-        ensures seven { Seven result }
+    ) -> Result<Listed, ListError>
+        ensures { Checked (rooms work.old status.old) (λ x. Lists rows.old text.old (sight (H.log host.old) (H.world host.old)) self.process (areas work.old status.old) x (sight (H.log host.new) (H.world host.new)) (areas work.new status.new) rows.new text.new) ((host.new ≡ host.old) × (work.new ≡ work.old) × (status.new ≡ status.old) × (rows.new ≡ rows.old) × (text.new ≡ text.old)) result }
     {
         if work.len() < MAX_LINE_LEN || status.len() < MAX_STATUS_LEN {
-            return Err(listing::Error::AreaTooShort);
+            return Err(CallError::Caller(AreaTooShort));
         }
-        let listed = inner::list(host, self.process, work, status, rows, text)?;
-        if listed.full {
-            return Err(listing::Error::Full(listed));
-        }
-        Ok(listed)
+        let process = self.process;
+        let mut peer = Peer {
+            host,
+            process,
+            work,
+        };
+        let mut status = StatusArea { bytes: status };
+        Ok(inner::list(&mut peer, &mut status, rows, text)?)
     }
 
     /// One read of a result: the length of a payload, which lies at the front of the work area, or at the flush the final status.
@@ -119,14 +135,21 @@ impl Client {
         host: &mut H,
         work: &mut [u8],
         status: &mut [u8],
-    ) -> Result<Output, ReadError>
+    ) -> Result<Output, AreaError>
         ensures bound { IfOk result (λ o. output_length o ≤ 65516) }
-        ensures goes { Checked (rooms work.old status.old) (λ x. TalksBy PieceLaw read_piece (sight (H.log host.old) (H.world host.old)) self.process (areas work.old status.old) x (sight (H.log host.new) (H.world host.new)) (areas work.new status.new)) ((host.new ≡ host.old) × (work.new ≡ work.old) × (status.new ≡ status.old)) (told (piece_of work.new) read_why result) }
+        ensures goes { Checked (rooms work.old status.old) (λ x. TalksBy PieceLaw read_piece (sight (H.log host.old) (H.world host.old)) self.process (areas work.old status.old) x (sight (H.log host.new) (H.world host.new)) (areas work.new status.new)) ((host.new ≡ host.old) × (work.new ≡ work.old) × (status.new ≡ status.old)) (told (piece_of work.new) (λ e. e) result) }
     {
         if work.len() < MAX_LINE_LEN || status.len() < MAX_STATUS_LEN {
-            return Err(ReadError::AreaTooShort);
+            return Err(CallError::Caller(AreaTooShort));
         }
-        Ok(inner::read(host, self.process, work, status)?)
+        let process = self.process;
+        let mut peer = Peer {
+            host,
+            process,
+            work,
+        };
+        let mut status = StatusArea { bytes: status };
+        Ok(inner::read(&mut peer, &mut status)?)
     }
 
     /// The status that lines up to the flush tell; the last one wins.
@@ -135,12 +158,19 @@ impl Client {
         host: &mut H,
         work: &mut [u8],
         status: &mut [u8],
-    ) -> Result<Status, ReadError>
-        ensures { Checked (rooms work.old status.old) (λ x. TalksBy StatusLaw read_status (sight (H.log host.old) (H.world host.old)) self.process (areas work.old status.old) x (sight (H.log host.new) (H.world host.new)) (areas work.new status.new)) ((host.new ≡ host.old) × (work.new ≡ work.old) × (status.new ≡ status.old)) (told (λ s. s) read_why result) }
+    ) -> Result<Status, AreaError>
+        ensures { Checked (rooms work.old status.old) (λ x. TalksBy StatusLaw read_status (sight (H.log host.old) (H.world host.old)) self.process (areas work.old status.old) x (sight (H.log host.new) (H.world host.new)) (areas work.new status.new)) ((host.new ≡ host.old) × (work.new ≡ work.old) × (status.new ≡ status.old)) result }
     {
         if work.len() < MAX_LINE_LEN || status.len() < MAX_STATUS_LEN {
-            return Err(ReadError::AreaTooShort);
+            return Err(CallError::Caller(AreaTooShort));
         }
-        Ok(read_status(host, self.process, work, status)?)
+        let process = self.process;
+        let mut peer = Peer {
+            host,
+            process,
+            work,
+        };
+        let mut status = StatusArea { bytes: status };
+        Ok(read_status(&mut peer, &mut status)?)
     }
 }

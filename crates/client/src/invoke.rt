@@ -1,41 +1,10 @@
 //! A command with its metadata.
 ghost use Rattle.std.specs.Prelude.{◌≡◌, ◌∷◌, ◌++◌};
+ghost use Rattle.std.specs.List.{list_all};
 ghost use Rattle.packetline.specs.Packets.{line_pkt, sendable, all_sendable};
-ghost use Rattle.client.specs.declared.invoke.Error.TheVariants.{Line as of_line};
-ghost use Rattle.client.specs.Requests.{request, invoke_number};
+ghost use Rattle.client.specs.Requests.{meta_line, request};
 
-use host::fault::LineFault;
 use packetline::encode::MAX_DATA_LEN;
-use slices::refusal::Numbered;
-
-/// Why a command was not answered by a status.
-#[derive(Clone, Copy)]
-pub enum Error {
-    AreaTooShort,
-    OutsideLimits,
-    Line(LineFault),
-}
-
-impl Error {
-    /// The refusal's number.
-    pub fn refusal_number(self) -> u8
-        ensures { result ≡ invoke_number self }
-    {
-        match self {
-            Error::AreaTooShort => 1,
-            Error::OutsideLimits => 2,
-            Error::Line(fault) => fault.refusal_number(),
-        }
-    }
-}
-
-impl From<LineFault> for Error {
-    ghost from_gives = { λ f r. r ≡ of_line f };
-
-    fn from(f: LineFault) -> Error {
-        Error::Line(f)
-    }
-}
 
 /// One line of metadata, `key=value`.
 #[derive(Clone, Copy)]
@@ -51,17 +20,25 @@ fn is_sendable(key: &[u8], value: &[u8]) -> bool
     key.len() + 1 + value.len() <= MAX_DATA_LEN
 }
 
+impl Meta<'_> {
+    /// Whether the line can be sent.
+    fn is_sendable(&self) -> bool
+        ensures { result ≡ sendable (meta_line self.now) }
+    {
+        is_sendable(self.key, self.value)
+    }
+}
+
+/// Whether each line of metadata can be sent.
+fn are_all_sendable(meta: &[Meta<'_>]) -> bool
+    ensures { result ≡ list_all (λ m. sendable (meta_line m)) meta.now }
+{
+    meta.iter().all(|row| row.is_sendable())
+}
+
 /// Whether a command's lines can be sent.
 pub fn are_sendable(command: &[u8], meta: &[Meta<'_>]) -> bool
     ensures { result ≡ all_sendable (request command.now meta.now) }
 {
-    if !is_sendable(b"command", command) {
-        return false;
-    }
-    for row in meta {
-        if !is_sendable(row.key, row.value) {
-            return false;
-        }
-    }
-    true
+    is_sendable(b"command", command) && are_all_sendable(meta)
 }

@@ -6,3 +6,4 @@ pub mod Tellings
 pub mod StatusLoop
 pub mod Lines
 pub mod Masks
+pub mod Peering

@@ -1,34 +1,41 @@
-use Rattle.std.proofs.Common.{◌≤◌, IfSome, Err, ap, ◌∙◌, subst, rules}
+use Rattle.std.proofs.Common.{◌≤◌, IfSome, Err, refl, ap, ◌∙◌, subst, rules}
 use Rattle.std.proofs.lemmas.Result.{err_from_is_err_and}
+use Rattle.host.proofs.Peering.{same_then}
+use Rattle.process.proofs.Peering.{later_with}
 use Rattle.client.proofs.Pieces.{piece_fault, piece_payload, piece_untold, piece_final}
 use Rattle.client.proofs.inner.read.Goals as goal
 
-pub returns-in_err-n : goal.returns-in_err-n
-returns-in_err-n g c =
+pub returns-in_err-n-clause-goes : goal.returns-in_err-n-clause-goes
+returns-in_err-n-clause-goes g c =
     let e = err_from_is_err_and c.from_residual.result c.from_residual.ensures.1 in
-    record {
-      bound = search rules;
-      goes = piece_fault _ _ c.args.work.now c.args.status.now _ _ _ _ c.in_err-n.ensures.goes (e.1 ∙ ap (λ x. Err x) e.2);
-    }
+    let s = c.in_err-n.ensures.goes in
+    record { lent = s.lent; same_area = refl; talks = piece_fault _ _ _ _ _ _ _ _ s.talks (e.1 ∙ ap (λ x. Err x) e.2) }
 
-pub returns-in_err-read_status-in-None : goal.returns-in_err-read_status-in-None
-returns-in_err-read_status-in-None g c =
+pub returns-in_err-read_status-in-None-clause-goes : goal.returns-in_err-read_status-in-None-clause-goes
+returns-in_err-read_status-in-None-clause-goes g c =
     let e = err_from_is_err_and c.from_residual-in_err-read_status-in-None.result c.from_residual-in_err-read_status-in-None.ensures.1 in
+    let s = c.in_ok-n.ensures.goes in
+    let t = c.in_err-read_status-in-None.ensures in
     record {
-      bound = search rules;
-      goes = piece_untold _ _ c.args.work.now c.args.status.now _ _ _ c.in_ok-n.ensures.goes c.in-None.is _ _ _ _ _ c.in_err-read_status-in-None.ensures (e.1 ∙ ap (λ x. Err x) e.2);
+      lent = same_then s.lent t.lent;
+      same_area = t.same_area;
+      talks = piece_untold _ _ _ _ _ _ _ s.talks c.in-None.is _ _ _ _ _ (later_with s.lent t) (e.1 ∙ ap (λ x. Err x) e.2);
     }
 
 pub returns-in-Some : goal.returns-in-Some
 returns-in-Some g c =
+    let s = c.in_ok-n.ensures.goes in
     record {
       bound = subst (λ o. IfSome o (λ n. n ≤ 65516)) c.in-Some.is c.in_ok-n.ensures.bound;
-      goes = piece_payload _ _ c.args.work.now c.args.status.now _ _ _ c.in_ok-n.ensures.goes _ c.in-Some.is;
+      goes = record { lent = s.lent; same_area = refl; talks = piece_payload _ _ _ _ _ _ _ s.talks _ c.in-Some.is };
     }
 
-pub returns-in_ok-read_status-in-None : goal.returns-in_ok-read_status-in-None
-returns-in_ok-read_status-in-None g c =
+pub returns-in_ok-read_status-in-None-clause-goes : goal.returns-in_ok-read_status-in-None-clause-goes
+returns-in_ok-read_status-in-None-clause-goes g c =
+    let s = c.in_ok-n.ensures.goes in
+    let t = c.in_ok-read_status-in-None.ensures in
     record {
-      bound = search rules;
-      goes = piece_final _ _ c.args.work.now c.args.status.now _ _ _ c.in_ok-n.ensures.goes c.in-None.is _ _ _ _ c.in_ok-read_status-in-None.ensures;
+      lent = same_then s.lent t.lent;
+      same_area = t.same_area;
+      talks = piece_final _ _ _ _ _ _ _ s.talks c.in-None.is _ _ _ _ (later_with s.lent t);
     }

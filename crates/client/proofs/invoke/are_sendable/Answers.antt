@@ -1,12 +1,12 @@
-use Rattle.std.proofs.Common.{arith}
-use Rattle.client.proofs.Pairs.{row_refused, row_fits, rows_fit}
+use Rattle.std.proofs.Common.{◌≡◌, true, rules}
+use Rattle.std.specs.List.{list_all}
+use Rattle.packetline.specs.Packets.{sendable}
+use Rattle.client.specs.Requests.{meta_line, command_line}
+use Rattle.client.proofs.Pairs.{request_all}
 use Rattle.client.proofs.invoke.are_sendable.Goals as goal
 
-pub returns-then-not-is_sendable-2 : goal.returns-then-not-is_sendable-2
-returns-then-not-is_sendable-2 c = row_refused c.args.meta.now c.loop-row.row-index c.loop-row.invariant (omega arith) c.if-not-is_sendable-2.ensures _
-
-pub loop-row-preserved : goal.loop-row-preserved
-loop-row-preserved c = row_fits c.args.meta.now c.loop-row.row-index c.loop-row.invariant (omega arith) c.if-not-is_sendable-2.ensures
-
-pub returns : goal.returns
-returns c = rows_fit c.args.meta.now c.loop-row.row-index c.loop-row.invariant (omega arith) _ c.if-not-is_sendable.ensures
+pub returns-then-is_sendable : goal.returns-then-is_sendable
+returns-then-is_sendable c =
+    let first : true ≡ sendable (command_line c.args.command.now) = search rules in
+    let rest : c.are_all_sendable.result ≡ list_all (λ m. sendable (meta_line m)) c.args.meta.now = search rules in
+    request_all c.args.command.now c.args.meta.now c.are_all_sendable.result first rest
