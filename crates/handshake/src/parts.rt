@@ -15,7 +15,6 @@ use packetline::text::{decimal, number};
 use process::capabilities::Capabilities;
 use slices::equal::first;
 use slices::name::Name;
-use slices::names::same_bytes;
 
 /// The line of one version.
 fn send_version<H: Host>(
@@ -73,7 +72,7 @@ fn judge_welcome(text: &[u8], prefix: &Name) -> Result<(), Protocol>
     let Some(rest) = after(prefix.as_bytes(), text) else {
         return Err(Protocol::Welcome);
     };
-    if !same_bytes(rest, b"-server") {
+    if rest != b"-server".as_slice() {
         return Err(Protocol::Welcome);
     }
     Ok(())
