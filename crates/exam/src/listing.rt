@@ -2,7 +2,7 @@
 ghost use Rattle.std.specs.Prelude.{◌≤◌, vec_len};
 
 use packetline::decode;
-use packetline::decode::{Stream, streaming};
+use packetline::decode::streaming;
 use packetline::packet::PacketLineRef;
 use recording::line::Direction;
 use recording::show::escape;
@@ -103,19 +103,14 @@ impl Flow {
             let read = self.read;
             let unread = &self.bytes.as_slice()[read..];
             match streaming(unread) {
-                Ok(
-                    Stream::Complete {
-                        line,
-                        bytes_consumed,
-                    },
-                ) => {
+                Ok(Some(whole)) => {
                     number = number.saturating_add(1);
                     if !quiet {
-                        print_packet(rt, number, sign, &unread[0..4], line)?;
+                        print_packet(rt, number, sign, &unread[0..4], whole.line)?;
                     }
-                    self.read = read + bytes_consumed;
+                    self.read = read + whole.bytes_consumed;
                 }
-                Ok(Stream::Incomplete) => break,
+                Ok(None) => break,
                 Err(e) => {
                     number = number.saturating_add(1);
                     if !quiet {

@@ -8,7 +8,6 @@ use anyhow::anyhow;
 use host::host::{Host, How};
 use host::reading::read;
 use host::sending::{send_flush, send_line};
-use packetline::packet::{Packet, PacketLineRef};
 use recording::show::{escape, read_back};
 use scripts::script::Script;
 use slices::refusal::Numbered;
@@ -78,16 +77,6 @@ fn send(
     Ok(())
 }
 
-/// A packet that was read, with its payload from the front of the area.
-fn with_payload(packet: Packet, area: &[u8]) -> PacketLineRef<'_> {
-    match packet {
-        Packet::Flush => PacketLineRef::Flush,
-        Packet::Delimiter => PacketLineRef::Delimiter,
-        Packet::ResponseEnd => PacketLineRef::ResponseEnd,
-        Packet::Data(n) => PacketLineRef::Data(&area[0..n.min(area.len())]),
-    }
-}
-
 /// Reads one packet.
 fn read_one(
     rt: &HostRuntime,
@@ -97,7 +86,7 @@ fn read_one(
 ) -> anyhow::Result<()> {
     match read(host, process, area) {
         Ok(packet) => {
-            let text = describe(rt.alloc(), with_payload(packet, area))?;
+            let text = describe(rt.alloc(), packet.with_payload(area))?;
             println!(rt; "  = {text}")?;
             Ok(())
         }

@@ -17,7 +17,6 @@ use packetline::text::{decimal, number};
 use process::capabilities::Capabilities;
 use slices::equal::first;
 use slices::name::Name;
-use slices::names::same_bytes;
 
 /// The line of one version.
 fn send_version<H: Host>(peer: &mut Peer<'_, H>, version: u64) -> Result<(), LineFault>

@@ -1,6 +1,5 @@
 pub mod Fronts
 pub mod Digits
-pub mod Decimals
 pub mod Exact
 pub mod Framing
 pub mod Laying

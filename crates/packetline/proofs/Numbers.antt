@@ -1,5 +1,5 @@
 -- What `parse` answers of bytes, and of the digits of a number.
-use Rattle.std.proofs.Common.{◌≡◌, ℕ, zero, suc, ◌^◌, ◌<◌, Bool, true, false, cond, eqb, List, [], ◌∷◌, length, get_or, drop, Some, None, Ok, Err, IsUtf8, IsAscii, decimal, Decides, Result, sym, refl, ap, ◌∙◌, subst, arith, lit<}
+use Rattle.std.proofs.Common.{◌≡◌, ℕ, zero, suc, ◌^◌, ◌<◌, Bool, true, false, cond, eqb, List, [], ◌∷◌, length, get_or, drop, Some, None, Ok, Err, IsUtf8, IsAscii, decimal, Decides, Bor, Option, Result, MatchOption, MatchResult, sym, refl, ap, ◌∙◌, subst, arith, lit<}
 use Rattle.std.specs.Str.Parse.{without_leading_plus, digits_value, AllDigits, IsNumeral, ParsesUnsigned}
 use Rattle.std.specs.Result.{result_ok}
 use Rattle.std.specs.Str.{all_ascii_digits}
@@ -50,6 +50,12 @@ numeral_utf8 (c ∷ cs) h = IsUtf8-from_ascii (c ∷ cs) (signed_ascii (eqb c 43
 -- bytes that are not UTF-8 are no number
 pub not_utf8 : (bs : List ℕ) → (IsUtf8 bs → ⊥) → None ≡ number_of bs
 not_utf8 bs n = no_number bs (λ h. n (numeral_utf8 bs h.0.1))
+
+-- what is left of bytes that were read as UTF-8: themselves, or that they are not
+pub text_read : {E : Type 0} (Q : E → Type 0) (bs : List ℕ) (r : Result (Bor (List ℕ)) E) (o : Option (Bor (List ℕ)))
+    → MatchResult r (λ s. (s.now ≡ bs) × IsUtf8 bs) (λ e. (IsUtf8 bs → ⊥) × Q e) → o ≡ result_ok r → MatchOption o (IsUtf8 bs → ⊥) (λ s. s.now ≡ bs)
+text_read Q bs (Ok s) o h e = subst (λ p. MatchOption p (IsUtf8 bs → ⊥) (λ s. s.now ≡ bs)) (sym e) h.0
+text_read Q bs (Err x) o h e = subst (λ p. MatchOption p (IsUtf8 bs → ⊥) (λ s. s.now ≡ bs)) (sym e) h.0
 
 -- no `+` stands before digits
 no_plus : (ds : List ℕ) → IsNumeral 10 ds → get_or ds 0 0 ≡ 43 → ⊥

@@ -1,8 +1,10 @@
 -- The law of a pair leaves one answer.
-use Rattle.std.proofs.Common.{◌≡◌, ℕ, ◌+◌, ◌<◌, eqb, List, [], ◌∷◌, ◌++◌, length, get_or, take, drop, Some, None, Option, sym, refl, ap, ◌∙◌, take-append-drop}
+use Rattle.std.proofs.Common.{◌≡◌, ◌≢◌, ℕ, ◌+◌, ◌<◌, eqb, List, [], ◌∷◌, ◌++◌, length, get_or, take, drop, Some, None, Option, sym, refl, ap, ◌∙◌, arith, take-append-drop}
 use Rattle.std.specs.Option.{option_map}
-use Rattle.std.proofs.lemmas.List.{drop_more}
-use Rattle.std.proofs.lemmas.Bool.{cond-false, ne_eqb}
+use Rattle.std.proofs.lemmas.List.{drop_more, length-take, get_or-take}
+use Rattle.std.proofs.lemmas.List.Elements.{recursion_from_All}
+use Rattle.std.proofs.lemmas.Bool.{cond-false, eqb-true, eqb-false, ne_eqb}
+use Rattle.slices.specs.First.{IsFirst}
 use Rattle.packetline.specs.Metadata.{prepended, pair_of, Unequal, IsPair}
 
 -- a byte that is not `=` belongs to the key
@@ -21,6 +23,12 @@ pub pair_is : (bs : List ℕ) (r : Option (List ℕ × List ℕ)) → IsPair bs 
 pair_is bs None h = none_is bs h
 pair_is bs (Some p) h = some_is p.0 p.1 h.1 ∙ sym (ap pair_of h.0)
 
--- a line around a `=` whose front has none
-pub pair_at : (bs : List ℕ) (i : ℕ) → i < length bs → get_or bs i 0 ≡ 61 → Unequal (take i bs) → IsPair bs (Some (take i bs, drop (i + 1) bs))
-pair_at bs i l e h = (sym (take-append-drop i bs) ∙ ap (λ (x : List ℕ). take i bs ++ x) (drop_more bs i 0 l ∙ ap (λ (b : ℕ). b ∷ drop (i + 1) bs) e), h)
+-- a line at the first `=`, if there is one
+pub pair_at : (bs : List ℕ) (r : Option ℕ) → IsFirst (λ b. eqb b 61) bs r → IsPair bs (option_map (λ i. (take i bs, drop (i + 1) bs)) r)
+pair_at bs None h = recursion_from_All (λ b. b ≢ 61) bs (λ k d l. eqb-false _ 61 (h k d l))
+pair_at bs (Some i) h =
+    let before : (k : ℕ) (d : ℕ) → k < length (take i bs) → get_or (take i bs) k d ≢ 61 = λ k d l.
+    let inside : k < i = omega (arith, length-take i bs) in rw (get_or-take i bs k d inside) (eqb-false _ 61 (h.2 k d inside)) in (
+      sym (take-append-drop i bs) ∙ ap (λ (x : List ℕ). take i bs ++ x) (drop_more bs i 0 h.0 ∙ ap (λ (b : ℕ). b ∷ drop (i + 1) bs) (eqb-true _ 61 (h.1 0))),
+      recursion_from_All (λ b. b ≢ 61) (take i bs) before,
+    )

@@ -2,8 +2,7 @@
 use Rattle.std.specs.Prelude.{◌≡◌, ℕ, ◌≤◌, List, length, take, drop, Some, None, Ok, Err, Option, Result, ◌≢◌}
 use Rattle.packetline.specs.declared.decode.Error.{Error}
 use Rattle.packetline.specs.declared.decode.Error.TheVariants.{BadHeader}
-use Rattle.packetline.specs.declared.decode.Stream.{Stream}
-use Rattle.packetline.specs.declared.decode.Stream.TheVariants.{Complete, Incomplete}
+use Rattle.packetline.specs.declared.decode.Complete.{Complete}
 use Rattle.packetline.specs.declared.decode.Tally.{Tally}
 use Rattle.packetline.specs.declared.packet.PacketLineRef.{PacketLineRef}
 use Rattle.packetline.specs.declared.packet.PacketLineRef.TheVariants.{Data, Flush, Delimiter, ResponseEnd}
@@ -20,15 +19,15 @@ pkt Delimiter = delimiter
 pkt ResponseEnd = response_end
 
 -- what a reader answered of the front of bytes
-abbrev pub front_told : Result Stream Error → List ℕ → Front
-front_told (Ok (Complete p n)) bytes = whole (pkt p) (take n bytes) (drop n bytes)
-front_told (Ok Incomplete) bytes = short
+abbrev pub front_told : Result (Option Complete) Error → List ℕ → Front
+front_told (Ok (Some c)) bytes = whole (pkt c.line) (take c.bytes_consumed bytes) (drop c.bytes_consumed bytes)
+front_told (Ok None) bytes = short
 front_told (Err e) bytes = fronted (Err (decode_number e)) bytes
 
 -- a packet that is whole lies within the bytes, and so do four bytes that are no header
-abbrev pub Within : Result Stream Error → List ℕ → Type 0
-Within (Ok (Complete p n)) bytes = (4 ≤ n) × (n ≤ length bytes)
-Within (Ok Incomplete) bytes = Unit {0}
+abbrev pub Within : Result (Option Complete) Error → List ℕ → Type 0
+Within (Ok (Some c)) bytes = (4 ≤ c.bytes_consumed) × (c.bytes_consumed ≤ length bytes)
+Within (Ok None) bytes = Unit {0}
 Within (Err e) bytes = 4 ≤ length bytes
 
 -- one packet of an iteration: the packet at the front and what follows it, or none where no whole packet stands there

@@ -1,17 +1,14 @@
-//! What one crate lends the next: packets laid down by a caller who has judged payload and area.
-ghost use Rattle.std.specs.Prelude.{◌≡◌, ◌+◌, ◌<◌, ◌≤◌, true, ◌∷◌, ◌++◌, length};
+//! What one crate lends the next: a hexadecimal digit, and packets laid down by a caller who has judged payload and area.
+ghost use Rattle.std.specs.Prelude.{◌≡◌, ◌+◌, ◌%◌, ◌<◌, ◌≤◌, true, ◌∷◌, ◌++◌, length};
 ghost use Rattle.packetline.specs.Packets.{hex_char, digits, Pkt, flush, line, line_pkt, framable, sendable, packet, over};
 
-/// A digit in lower case.
-fn hex_char(d: usize) -> u8
-    requires { d < 16 }
-    ensures { result ≡ hex_char d }
+/// The hexadecimal digit, in lower case, of the last four bits of `n`.
+pub fn hex_char(n: usize) -> u8
+    ensures value { result ≡ hex_char (n % 16) }
+    ensures ascii { result < 128 }
 {
-    if d < 10 {
-        b'0' + d as u8
-    } else {
-        b'a' + (d as u8 - 10)
-    }
+    let d = (n % 16) as u8;
+    if d < 10 { b'0' + d } else { b'a' + (d - 10) }
 }
 
 /// The four digits of `n` over the front of `area`.
@@ -21,9 +18,9 @@ fn lay_header(n: usize, area: &mut [u8])
     ensures { area.new ≡ over (digits n) area.old }
 {
     area[0] = hex_char(n / 4096);
-    area[1] = hex_char(n / 256 % 16);
-    area[2] = hex_char(n / 16 % 16);
-    area[3] = hex_char(n % 16);
+    area[1] = hex_char(n / 256);
+    area[2] = hex_char(n / 16);
+    area[3] = hex_char(n);
 }
 
 /// The packet of `payload` over the front of `area`, and its length.

@@ -4,6 +4,7 @@ ghost use Rattle.std.specs.Option.{option_map};
 ghost use Rattle.packetline.specs.Metadata.{Bare, IsPair, LessEnds, Padded, blank, both, pair_of, part, rest, trim_both};
 
 use crate::text::text;
+use slices::equal::first;
 
 // A side of a line.
 #[derive(Clone, Copy)]
@@ -75,10 +76,6 @@ pub fn pair(line: &[u8]) -> Option<(&[u8], &[u8])>
     ensures value { option_map both result ≡ pair_of line.now }
     ensures law { IsPair line.now (option_map both result) }
 {
-    for (i, b) in line.iter().enumerate() {
-        if *b == b'=' {
-            return Some((&line[0..i], &line[i + 1..]));
-        }
-    }
-    None
+    let at = first(line, &b'=')?;
+    Some((&line[..at], &line[at + 1..]))
 }

@@ -1,4 +1,7 @@
 //! Packets: by their header, and with their payload.
+ghost use Rattle.std.specs.Prelude.{◌≡◌};
+ghost use Rattle.packetline.specs.Packets.{payload_length, with_payload};
+ghost use Rattle.packetline.specs.Reads.{pkt};
 
 /// What a header announces; of a data packet, how many bytes of payload follow.
 #[derive(Clone, Copy, PartialEq, Eq, Debug)]
@@ -16,4 +19,28 @@ pub enum PacketLineRef<'a> {
     Flush,
     Delimiter,
     ResponseEnd,
+}
+
+impl Packet {
+    /// How many bytes of payload follow the header.
+    pub(crate) fn payload_length(self) -> usize
+        ensures { result ≡ payload_length self }
+    {
+        match self {
+            Packet::Data(n) => n,
+            _ => 0,
+        }
+    }
+
+    /// The packet with its payload from the front of `bytes`, as far as that is there.
+    pub fn with_payload(self, bytes: &[u8]) -> PacketLineRef<'_>
+        ensures { pkt result ≡ with_payload self bytes.now }
+    {
+        match self {
+            Packet::Flush => PacketLineRef::Flush,
+            Packet::Delimiter => PacketLineRef::Delimiter,
+            Packet::ResponseEnd => PacketLineRef::ResponseEnd,
+            Packet::Data(n) => PacketLineRef::Data(&bytes[0..n.min(bytes.len())]),
+        }
+    }
 }

@@ -1,9 +1,12 @@
 //! Payloads that are text, and numbers in digits.
 ghost use Rattle.std.specs.Prelude.{◌≡◌, ◌<◌, length, drop, Some, IsUtf8, decimal as decimal_of, Decides};
 ghost use Rattle.slices.specs.Answers.{told};
+ghost use Rattle.packetline.specs.declared.text.Error.TheVariants.{NotUtf8};
 ghost use Rattle.packetline.specs.Text.{IsText, number_of, text_number, text_of, utf8};
 
+use itoa::write_digits;
 use slices::refusal::Numbered;
+use std::str::Utf8Error;
 
 /// Why a payload is no text.
 #[derive(Clone, Copy, PartialEq, Eq, Debug)]
@@ -21,25 +24,30 @@ impl Numbered for Error {
     }
 }
 
+impl From<Utf8Error> for Error {
+    ghost from_gives = { λ _ r. r ≡ NotUtf8 };
+
+    fn from(_: Utf8Error) -> Error {
+        Error::NotUtf8
+    }
+}
+
 /// The text of a payload, without the white space at its end.
+#[tactic(auto, using(crate::proofs::Texts::utf8_decides))]
 pub fn text(payload: &[u8]) -> Result<&str, Error>
     ensures value { told (λ x. x.now) text_number result ≡ text_of payload.now }
     ensures law { IsText payload.now (told (λ x. x.now) text_number result) }
     ensures decides { Decides (utf8 payload.now) (IsUtf8 payload.now) }
 {
-    match std::str::from_utf8(payload) {
-        Ok(text) => Ok(text.trim_end()),
-        Err(_) => Err(Error::NotUtf8),
-    }
+    let text = std::str::from_utf8(payload)?;
+    Ok(text.trim_end())
 }
 
 /// The number that digits write, with or without a `+` before them. What does not fit in 64 bits is none.
 pub fn number(digits: &[u8]) -> Option<u64>
     ensures { result ≡ number_of digits.now }
 {
-    let Ok(text) = std::str::from_utf8(digits) else {
-        return None;
-    };
+    let text = std::str::from_utf8(digits).ok()?;
     text.parse().ok()
 }
 
@@ -50,13 +58,5 @@ pub fn decimal(n: u64, digits: &mut [u8; 20]) -> usize
     ensures len { length digits.new ≡ 20 }
     ensures law { number_of (decimal_of n) ≡ Some n }
 {
-    let mut at = 19;
-    let mut left = n;
-    while left >= 10 {
-        digits[at] = b'0' + (left % 10) as u8;
-        left /= 10;
-        at -= 1;
-    }
-    digits[at] = b'0' + left as u8;
-    at
+    write_digits(n, digits, 20)
 }

@@ -11,22 +11,21 @@ use host::fault::LineFault;
 use host::host::Host;
 use host::peer::Peer;
 use packetline::line::Line;
-use slices::names::same_bytes;
 
 /// What a status name means.
 fn word_of(name: &[u8]) -> Word
     ensures { result ≡ word_of name.now }
 {
-    if same_bytes(name, b"success") {
+    if name == b"success".as_slice() {
         return Word::Success;
     }
-    if same_bytes(name, b"delayed") {
+    if name == b"delayed".as_slice() {
         return Word::Delayed;
     }
-    if same_bytes(name, b"abort") {
+    if name == b"abort".as_slice() {
         return Word::Abort;
     }
-    if same_bytes(name, b"error") {
+    if name == b"error".as_slice() {
         return Word::Error;
     }
     Word::Other

@@ -1,10 +1,10 @@
 -- The first element of a list that passes a test, and the first that equals another.
-use Rattle.std.specs.Prelude.{◌≡◌, ℕ, ◌+◌, ◌<◌, ◌≤◌, Bool, true, false, cond, List, [], ◌∷◌, length, Some, None, Option, slice_index_or}
+use Rattle.std.specs.Prelude.{◌≡◌, ℕ, ◌<◌, ◌≤◌, Bool, true, false, List, length, Some, None, Option, slice_index_or}
+use Rattle.std.specs.List.{position_from}
 
 -- the index of the first that passes, where the first of the list has index i
 abbrev pub first_from : {X : Type 0} → (X → Bool) → ℕ → List X → Option ℕ
-first_from p i [] = None
-first_from p i (x ∷ xs) = cond (p x) (Some i) (first_from p (i + 1) xs)
+first_from p i xs = position_from p i xs
 
 -- the index of the first that is the same as the sought one
 abbrev pub first_equal : {X : Type 0} → (X → X → Bool) → X → List X → Option ℕ

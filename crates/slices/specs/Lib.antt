@@ -3,4 +3,3 @@ pub mod First
 pub mod Held
 pub mod Limits
 pub mod Names
-pub mod Same

@@ -1,5 +1,6 @@
 -- What a name may be.
-use Rattle.std.specs.Prelude.{ℕ, ◌<◌, ◌≤◌, Bool, true, ◌&&◌, List, [], ◌∷◌, length, nat_le, slice_index}
+use Rattle.std.specs.Prelude.{ℕ, ◌<◌, ◌≤◌, Bool, ◌&&◌, List, length, nat_le, slice_index}
+use Rattle.std.specs.List.{list_all}
 
 -- a visible character of ASCII: neither a blank nor a control character
 abbrev pub visible : ℕ → Bool
@@ -7,8 +8,7 @@ visible b = nat_le 33 b && nat_le b 126
 
 -- each byte is visible
 abbrev pub all_visible : List ℕ → Bool
-all_visible [] = true
-all_visible (b ∷ bs) = visible b && all_visible bs
+all_visible text = list_all visible text
 
 -- a name has 1 to 64 bytes, each visible
 abbrev pub is_name : List ℕ → Bool

@@ -1,5 +1,6 @@
 -- What a name says, and when two are the same.
 use Rattle.std.specs.Prelude.{ℕ, Bool, List, take}
+use Rattle.std.specs.Ordering.{on}
 use Rattle.std.specs.Str.{bytes_eq}
 use Rattle.slices.specs.declared.name.Name.{Name}
 use Rattle.slices.specs.declared.name.OutsideLimits.{OutsideLimits}
@@ -14,4 +15,4 @@ name_number _ = 2
 
 -- two names are the same where their bytes are
 abbrev pub same_name : Name → Name → Bool
-same_name a b = bytes_eq (name_bytes a) (name_bytes b)
+same_name = on name_bytes bytes_eq

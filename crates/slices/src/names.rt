@@ -1,13 +1,11 @@
 //! How a name is made, read and compared.
 ghost use Rattle.std.specs.Prelude.{◌≡◌, ◌≤◌, true, length, take, is_ok, if◌then◌else◌, Ok, Err, Decides};
-ghost use Rattle.std.specs.Str.{bytes_eq};
 ghost use Rattle.slices.specs.Answers.{told};
 ghost use Rattle.slices.specs.Limits.{is_name, AllVisible, IsName};
 ghost use Rattle.slices.specs.Names.{name_bytes, name_number, same_name};
-ghost use Rattle.std.proofs.lemmas.Slice.Eq.{bytes_eq-Decides};
-ghost use Rattle.slices.specs.Same.{same_refl, same_sym, same_trans};
+ghost use Rattle.std.specs.Cmp.Rules.{comparing};
+ghost use Rattle.std.proofs.Common.{rules};
 
-use crate::equal::Equal;
 use crate::name::{Name, OutsideLimits};
 use crate::refusal::Numbered;
 
@@ -15,12 +13,7 @@ use crate::refusal::Numbered;
 fn is_visible(text: &[u8]) -> bool
     ensures { Decides result (AllVisible text.now) }
 {
-    for b in text {
-        if !(b'!'..=b'~').contains(b) {
-            return false;
-        }
-    }
-    true
+    text.iter().all(|b| (b'!'..=b'~').contains(b))
 }
 
 /// Whether `text` may be a name.
@@ -77,23 +70,16 @@ impl Name {
     }
 }
 
-/// Whether two texts have the same bytes.
-pub fn same_bytes(a: &[u8], b: &[u8]) -> bool
-    ensures { result ≡ bytes_eq a.now b.now }
-{
-    a == b
+impl PartialEq for Name {
+    ghost eq = { same_name };
+
+    ghost laws = { Prim.search (comparing, rules) };
+
+    fn eq(&self, other: &Name) -> bool {
+        self.as_bytes() == other.as_bytes()
+    }
 }
 
-impl Equal for Name {
-    ghost same = { same_name };
-
-    ghost reflexive = { λ x. same_refl bytes_eq bytes_eq-Decides (name_bytes x) };
-
-    ghost symmetric = { λ x y h. same_sym bytes_eq bytes_eq-Decides (name_bytes x) (name_bytes y) h };
-
-    ghost transitive = { λ x y z h k. same_trans bytes_eq bytes_eq-Decides (name_bytes x) (name_bytes y) (name_bytes z) h k };
-
-    fn equal(&self, other: &Name) -> bool {
-        same_bytes(self.as_bytes(), other.as_bytes())
-    }
+impl Eq for Name {
+    ghost laws = { Prim.search (comparing, rules) };
 }

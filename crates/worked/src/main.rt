@@ -79,13 +79,8 @@ fn front(rt: &HostRuntime, bytes: &[u8]) -> io::Result<()> {
     let flushes = tally.flushes;
     let read = tally.bytes_consumed;
     let first = match decode::streaming(bytes) {
-        Ok(
-            decode::Stream::Complete {
-                line: _,
-                bytes_consumed: _,
-            },
-        ) => "whole",
-        Ok(decode::Stream::Incomplete) => "short",
+        Ok(Some(_)) => "whole",
+        Ok(None) => "short",
         Err(_) => "bad",
     };
     println!(rt; "bytes {name}: {first}; {packets} packets, {flushes} flushes, {read} bytes read")

@@ -8,23 +8,16 @@ pub loop-line-init : goal.loop-line-init
 loop-line-init c = (tt, tt, subst (SoFar c.args.bytes.now 0 0) (sym c.new-lines.ensures) (at_start c.args.bytes.now))
 
 pub overflow_add-packets : goal.overflow_add-packets
-overflow_add-packets c =
-    let h = next_fits c.args.bytes.now c.loop-line.packets c.loop-line.flushes c.loop-line.lines.unread.now c.in-Some.line
-    c.next.new.self.unread.now c.loop-line.invariant.2 c.in-Some.ensures.steps in
-    omega (arith, h.0)
+overflow_add-packets c = omega (arith, (next_fits c.args.bytes.now _ _ _ _ _ c.loop-line.invariant.2 c.in-Some.ensures.steps).0)
 
 pub overflow_add-flushes : goal.overflow_add-flushes
-overflow_add-flushes c =
-    let h = next_fits c.args.bytes.now c.loop-line.packets c.loop-line.flushes c.loop-line.lines.unread.now c.in-Some.line
-    c.next.new.self.unread.now c.loop-line.invariant.2 c.in-Some.ensures.steps in
-    omega (arith, h.1)
+overflow_add-flushes c = omega (arith, (next_fits c.args.bytes.now _ _ _ _ _ c.loop-line.invariant.2 c.in-Some.ensures.steps).1)
 
 pub loop-line-preserved-in-Flush : goal.loop-line-preserved-in-Flush
 loop-line-preserved-in-Flush c = (
   tt,
   tt,
-  next_more c.args.bytes.now c.loop-line.packets c.loop-line.flushes _ c.loop-line.lines.unread.now c.in-Some.line
-      c.next.new.self.unread.now c.loop-line.invariant.2 c.in-Some.ensures.steps
+  next_more c.args.bytes.now _ _ _ _ _ _ c.loop-line.invariant.2 c.in-Some.ensures.steps
       (ap (λ x. c.loop-line.flushes + flush_one (pkt x)) c.in-Flush.is),
 )
 
@@ -32,22 +25,19 @@ pub loop-line-preserved : goal.loop-line-preserved
 loop-line-preserved c = (
   tt,
   tt,
-  next_more c.args.bytes.now c.loop-line.packets c.loop-line.flushes _ c.loop-line.lines.unread.now c.in-Some.line
-      c.next.new.self.unread.now c.loop-line.invariant.2 c.in-Some.ensures.steps
+  next_more c.args.bytes.now _ _ _ _ _ _ c.loop-line.invariant.2 c.in-Some.ensures.steps
       (ap (λ n. c.loop-line.flushes + n) (no_flush c.in-Some.line c.in_default-line.not-Flush) ∙ add-zero c.loop-line.flushes),
 )
 
 pub overflow_sub-result : goal.overflow_sub-result
 overflow_sub-result c =
     let same = ap length (c.rest.ensures ∙ c.in_default.ensures.steps.0) in
-    omega (arith, same, rest_fits c.args.bytes.now c.loop-line.packets c.loop-line.flushes c.loop-line.lines.unread.now c.loop-line.invariant.2)
+    omega (arith, same, rest_fits c.args.bytes.now _ _ _ c.loop-line.invariant.2)
 
 pub returns : goal.returns
 returns c =
     let s = c.in_default.ensures.steps in
     record {
-      counted =
-          at_end c.args.bytes.now _ c.loop-line.lines.unread.now c.loop-line.invariant.2 s.1
-          (ap (λ xs. length c.args.bytes.now - length xs) (c.rest.ensures ∙ s.0));
+      counted = at_end c.args.bytes.now _ _ c.loop-line.invariant.2 s.1 (ap (λ xs. length c.args.bytes.now - length xs) (c.rest.ensures ∙ s.0));
       sent = decodes_sent c.args.bytes.now;
     }
