@@ -157,8 +157,3 @@ pub next_fits : (bytes : List ℕ) (packets flushes : ℕ) (rest : List ℕ) (x 
 next_fits bytes packets flushes rest x rest' s n =
     let h = few bytes packets flushes rest (pkt x) n.0 rest' s n.1 in
     (h, omega (arith, h, fewer bytes packets flushes rest s))
-
-pub rest_fits : (bytes : List ℕ) (packets flushes : ℕ) (rest : List ℕ) → SoFar bytes packets flushes rest → length rest ≤ length bytes
-rest_fits bytes packets flushes rest s =
-    let len : length bytes ≡ length s.taken + length rest = ap length s.parts ∙ length-append s.taken rest in
-    omega (arith, len)

@@ -70,9 +70,6 @@ module _ (xs : List ℕ) (n : ℕ) (s : SpeltBy xs n) where
   small_d : s.d < 16
   small_d = digit_small (get_or xs 3 0) s.d s.fourth
 
-  spelt_small : n < 65536
-  spelt_small = omega (arith, s.sum, small_a, small_b, small_c, small_d)
-
   spelt_digits : map lower (four xs) ≡ digits n
   spelt_digits =
       let ea : n / 4096 ≡ s.a = omega (arith, s.sum, small_a, small_b, small_c, small_d) in
@@ -88,9 +85,6 @@ module _ (xs : List ℕ) (n : ℕ) (s : SpeltBy xs n) where
 -- the digits of a number that bytes spell are those bytes in lower case
 pub digits_read : (xs : List ℕ) (n : ℕ) → 4 ≤ length xs → number xs ≡ Some n → map lower (take 4 xs) ≡ digits n
 digits_read xs n h e = ap (map lower) (take_four xs h) ∙ spelt_digits xs n (spelt_by xs n e)
-
-pub number_small : (xs : List ℕ) (n : ℕ) → number xs ≡ Some n → n < 65536
-number_small xs n e = spelt_small xs n (spelt_by xs n e)
 
 -- bytes that are a number's digits, in either case, spell it
 pub digits_spell : (xs : List ℕ) (n : ℕ) → 4 ≤ length xs → n < 65536 → map lower (take 4 xs) ≡ digits n → number xs ≡ Some n

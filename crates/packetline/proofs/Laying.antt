@@ -2,7 +2,7 @@
 use Rattle.std.proofs.Common.{◌≡◌, ℕ, ◌+◌, ◌-◌, ◌<◌, ◌≤◌, true, leb, List, [], ◌∷◌, ◌++◌, length, get_or, drop, set, sym, refl, ap, ◌∙◌, append_assoc, arith, length-append}
 use borrow.Rule.Slice.PartMut.{put_mid}
 use Rattle.std.proofs.lemmas.List.{take_at, drop_at, drop-drop, drop_more, set_at}
-use Rattle.std.proofs.lemmas.Bool.{leb-true, le-leb, and_parts, and_from}
+use Rattle.std.proofs.lemmas.Bool.{le-leb, and_from}
 use Rattle.packetline.specs.Packets.{digits, sendable, packet, line_pkt, over}
 
 module _ (xs area : List ℕ) (n : ℕ) (e : length xs ≡ n) where
@@ -32,9 +32,6 @@ module _ (left : List ℕ) (s : ℕ) (right : List ℕ) where
 
   pub pair_long : end ≡ length (packet (line_pkt (left ++ s ∷ right)))
   pair_long = omega (arith, length-append left (s ∷ right))
-
-  pub pair_small : sendable (line_pkt (left ++ s ∷ right)) ≡ true → end ≤ 65520
-  pair_small h = omega (arith, pair_long, leb-true _ _ (and_parts (leb 1 (length (left ++ s ∷ right))) (leb (length (left ++ s ∷ right)) 65516) h).1)
 
   pub pair_sendable : length left + length right + 1 ≤ 65516 → sendable (line_pkt (left ++ s ∷ right)) ≡ true
   pair_sendable h =

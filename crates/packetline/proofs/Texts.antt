@@ -1,5 +1,5 @@
 -- What `trim_end` leaves of a text.
-use Rattle.std.proofs.Common.{◌≡◌, ℕ, Bool, true, false, List, [], ◌∷◌, ◌++◌, length, take, drop, Ok, Err, IsUtf8, Decides, sym, refl, ap, ◌∙◌, subst, ⊎_elim, arith, take-append-drop}
+use Rattle.std.proofs.Common.{◌≡◌, ℕ, Bool, true, false, List, [], ◌∷◌, ◌++◌, length, take, drop, Ok, IsUtf8, Decides, sym, refl, ap, ◌∙◌, subst, ⊎_elim, arith, take-append-drop}
 use lib.Utf8.{encode, encodes, scalar, scalars}
 use Rattle.std.specs.Char.{is_whitespace, is_not_whitespace}
 use Rattle.std.specs.Str.{NonePass, NoCharPasses, EmptyOrEndsWithPassing, chars}
@@ -8,8 +8,7 @@ use Rattle.std.proofs.lemmas.List.{append-nil, nil_from_length, take_at}
 use Rattle.std.proofs.lemmas.Bool.{cond-true, cond-false, not-true, not-false, cases_lt, and_parts, and_from}
 use Rattle.std.proofs.lemmas.Str.{chars-nil, chars-append, chars-encodes, chars_from_encodes, encodes-chars, scalars-chars, IsUtf8-encode, IsUtf8-take, IsCharBoundary-at_seam}
 use Rattle.std.proofs.lemmas.Bool.Decides.{nat_tests}
-use Rattle.packetline.specs.declared.text.Error.TheVariants.{NotUtf8}
-use Rattle.packetline.specs.Text.{utf8, keep, trimmed, trim_end, text_number, text_of, LessEnd}
+use Rattle.packetline.specs.Text.{utf8, keep, trimmed, trim_end, text_of, LessEnd}
 
 -- a test fails where what it tells is not so
 pub not_so : {P : Type 0} (b : Bool) → Decides b P → (P → ⊥) → b ≡ false
@@ -88,6 +87,3 @@ less_end_is bs t u h =
 -- what is answered in either case is the text of the payload
 pub text_is : (bs t : List ℕ) → IsUtf8 bs → IsUtf8 t → LessEnd bs t → Ok t ≡ text_of bs
 text_is bs t u v h = ap Ok (less_end_is bs t v h) ∙ sym (cond-true (utf8 bs) _ _ ((utf8_decides bs).1 u))
-
-pub no_text : (bs : List ℕ) → (IsUtf8 bs → ⊥) → Err (text_number NotUtf8) ≡ text_of bs
-no_text bs n = sym (cond-false (utf8 bs) _ _ (not_so (utf8 bs) (utf8_decides bs) n))

@@ -10,7 +10,7 @@ use Rattle.std.proofs.lemmas.Bool.Decides.{same_from_decides, nat_tests}
 use Rattle.packetline.specs.declared.metadata.Side.{Side}
 use Rattle.packetline.specs.declared.metadata.Side.TheVariants.{Front, Back}
 use Rattle.packetline.specs.Text.{utf8, trim_end, text_of, LessEnd}
-use Rattle.packetline.specs.Metadata.{whites, blank, most, put, part, rest, trim_at, Padded, Bare, LessEnds}
+use Rattle.packetline.specs.Metadata.{whites, blank, most, put, part, rest, trim_at, Padded, Bare}
 use Rattle.packetline.proofs.Texts.{utf8_decides, white_scalars, all_white, utf8_before, not_so}
 
 -- the test tells white space
@@ -218,16 +218,3 @@ bare_from s bs h c xs w e =
     let all = ap length e ∙ length_put s (encode c) xs in
     both_ways (blank (part s n bs)) (h n (omega arith) (omega arith) (omega arith))
     (ap blank (ap (part s n) e ∙ part_put s (encode c) xs) ∙ (blank_decides (encode c)).1 (c ∷ [], append-nil (encode c), (not_from_true (is_whitespace c) w, tt)))
-
--- the law of both ends
-pub less_ends : (bs s t : List ℕ) → Padded Front bs s → Bare Front s → Padded Back s t → Bare Back t → LessEnds bs t
-less_ends bs s t p b q d =
-    record {
-      front = p.0;
-      back = q.0;
-      whole = p.1 ∙ ap (λ (x : List ℕ). p.0 ++ x) q.1;
-      front_blank = p.2;
-      back_blank = q.2;
-      opens = λ c xs w e. b c (xs ++ q.0) w (q.1 ∙ ap (λ (x : List ℕ). x ++ q.0) e ∙ append_assoc (encode c) xs q.0);
-      shuts = d;
-    }

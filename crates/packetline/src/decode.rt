@@ -133,6 +133,7 @@ pub struct Tally {
 }
 
 /// Counts the packets of `bytes` from the first byte on.
+#[tactic(auto, using(crate::proofs::Decoding::at_start))]
 pub fn count(bytes: &[u8]) -> Tally
     ensures counted { Counted bytes.now result }
     ensures sent { DecodesSent bytes.now }

@@ -1,7 +1,7 @@
 -- The computed rule for names says what the rule in words says.
-use Rattle.std.proofs.Common.{◌≡◌, ℕ, ◌≤◌, Bool, ◌&&◌, leb, List, length, Decides, refl}
-use Rattle.std.specs.List.{AllByRecursion}
-use Rattle.std.proofs.ByRecursion.{All-get_or, All-from_get_or, Decides-by_and}
+use Rattle.std.proofs.Common.{◌≡◌, ℕ, ◌≤◌, Bool, ◌&&◌, leb, List, length, Decides}
+use Rattle.std.proofs.iter.runs.Made.{zero_default}
+use Rattle.std.proofs.lemmas.List.Sums.{AllPass-from_list_all, list_all-from_AllPass}
 use Rattle.std.proofs.lemmas.Bool.{leb-true, le-leb}
 use Rattle.std.proofs.lemmas.Bool.Decides.{Decides-and, Decides-like, same_from_decides}
 use Rattle.slices.specs.Limits.{visible, all_visible, is_name, Visible, AllVisible, IsName}
@@ -12,11 +12,11 @@ decides_leb a b = (leb-true a b, le-leb a b)
 visible_decides : (b : ℕ) → Decides (visible b) (Visible b)
 visible_decides b = Decides-and (leb 33 b) (leb b 126) (decides_leb 33 b) (decides_leb b 126)
 
-pub all_visible_decides : (text : List ℕ) → Decides (all_visible text) (AllVisible text)
-all_visible_decides text =
-    Decides-like {P = AllByRecursion Visible text} {Q = AllVisible text} (all_visible text)
-    (λ h k l. All-get_or Visible text k 0 l h) (λ h. All-from_get_or Visible text 0 h)
-    (Decides-by_and visible Visible all_visible visible_decides refl (λ _ _. refl) text)
+all_visible_decides : (text : List ℕ) → Decides (all_visible text) (AllVisible text)
+all_visible_decides text = (
+  λ e k l. (visible_decides _).0 (AllPass-from_list_all visible text e k 0 l),
+  λ h. list_all-from_AllPass visible text (λ k d l. rw (zero_default text k d l) ((visible_decides _).1 (h k l))),
+)
 
 pub name_decides : (text : List ℕ) → Decides (is_name text) (IsName text)
 name_decides text =

@@ -1,14 +1,8 @@
-use Rattle.std.proofs.Common.{◌+◌, ◌-◌, length, sym, ap, ◌∙◌, subst, add-zero, arith}
+use Rattle.std.proofs.Common.{◌+◌, ◌-◌, length, ap, ◌∙◌, add-zero, arith}
 use Rattle.packetline.specs.Packets.{flush_one}
 use Rattle.packetline.specs.Reads.{pkt}
-use Rattle.packetline.proofs.Decoding.{SoFar, at_start, next_more, next_fits, rest_fits, at_end, decodes_sent, no_flush}
+use Rattle.packetline.proofs.Decoding.{next_more, next_fits, at_end, decodes_sent, no_flush}
 use Rattle.packetline.proofs.decode.count.Goals as goal
-
-pub loop-line-init : goal.loop-line-init
-loop-line-init c = (tt, tt, subst (SoFar c.args.bytes.now 0 0) (sym c.new-lines.ensures) (at_start c.args.bytes.now))
-
-pub overflow_add-packets : goal.overflow_add-packets
-overflow_add-packets c = omega (arith, (next_fits c.args.bytes.now _ _ _ _ _ c.loop-line.invariant.2 c.in-Some.ensures.steps).0)
 
 pub overflow_add-flushes : goal.overflow_add-flushes
 overflow_add-flushes c = omega (arith, (next_fits c.args.bytes.now _ _ _ _ _ c.loop-line.invariant.2 c.in-Some.ensures.steps).1)
@@ -29,15 +23,10 @@ loop-line-preserved c = (
       (ap (λ n. c.loop-line.flushes + n) (no_flush c.in-Some.line c.in_default-line.not-Flush) ∙ add-zero c.loop-line.flushes),
 )
 
-pub overflow_sub-result : goal.overflow_sub-result
-overflow_sub-result c =
-    let same = ap length (c.rest.ensures ∙ c.in_default.ensures.steps.0) in
-    omega (arith, same, rest_fits c.args.bytes.now _ _ _ c.loop-line.invariant.2)
-
-pub returns : goal.returns
-returns c =
+pub returns-clause-counted : goal.returns-clause-counted
+returns-clause-counted c =
     let s = c.in_default.ensures.steps in
-    record {
-      counted = at_end c.args.bytes.now _ _ c.loop-line.invariant.2 s.1 (ap (λ xs. length c.args.bytes.now - length xs) (c.rest.ensures ∙ s.0));
-      sent = decodes_sent c.args.bytes.now;
-    }
+    at_end c.args.bytes.now _ _ c.loop-line.invariant.2 s.1 (ap (λ xs. length c.args.bytes.now - length xs) (c.rest.ensures ∙ s.0))
+
+pub returns-clause-sent : goal.returns-clause-sent
+returns-clause-sent c = decodes_sent c.args.bytes.now
