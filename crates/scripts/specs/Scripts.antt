@@ -1,17 +1,14 @@
 -- What a script host means: each started process plays the bytes of its row.
-use Rattle.std.specs.Prelude.{◌≡◌, ℕ, ◌+◌, ◌-◌, Bool, true, false, ◌&&◌, List, [], ◌∷◌, ◌++◌, map, length, take, drop, replicate, is_some, Some, None, Ok, Err, Option, Result, nat_le, slice_index_or, slice_set}
+use Rattle.std.specs.Prelude.{◌≡◌, ℕ, ◌+◌, ◌-◌, Bool, false, ◌&&◌, List, [], ◌++◌, map, length, take, drop, replicate, is_some, Some, None, Ok, Err, Option, Result, nat_le, slice_index_or, slice_set}
+use Rattle.std.specs.List.{list_all}
 use Rattle.std.specs.Str.{bytes_eq}
 use Rattle.slices.specs.First.{first_from}
 use Rattle.host.specs.declared.fault.NotStarted.{NotStarted}
-use Rattle.scripts.specs.declared.script.OutsideLimits.{OutsideLimits}
+use Rattle.slices.specs.declared.name.OutsideLimits.{OutsideLimits}
 use Rattle.scripts.specs.declared.script.Part.{Part}
 use Rattle.scripts.specs.declared.script.Row.{Row}
 use Rattle.scripts.specs.declared.script.Script.{Script}
 use Rattle.host.specs.Worlds.{Pipe, Process, gone, live, World, process}
-
--- the number of the refusal of rows that are no script
-abbrev pub script_number : OutsideLimits → ℕ
-script_number _ = 2
 
 -- the bytes of a part
 abbrev pub part : List ℕ → Part → List ℕ
@@ -25,14 +22,9 @@ within n p = nat_le (p.at + p.len) n
 abbrev pub row_within : ℕ → Row → Bool
 row_within n row = within n row.command && within n row.plays
 
--- each element passes
-abbrev pub all : {X : Type 0} → (X → Bool) → List X → Bool
-all p [] = true
-all p (x ∷ xs) = p x && all p xs
-
 -- at most 16 rows, each within the bytes
 abbrev pub is_script : List ℕ → List Row → Bool
-is_script bytes rows = nat_le (length rows) 16 && all (row_within (length bytes)) rows
+is_script bytes rows = nat_le (length rows) 16 && list_all (row_within (length bytes)) rows
 
 -- a row of this command
 abbrev pub row_of : List ℕ → List ℕ → Row → Bool
