@@ -19,7 +19,8 @@ use Rattle.slices.specs.First.{first_from}
 use Rattle.scripts.specs.declared.script.Row.{Row}
 use Rattle.host.specs.Worlds.{live, World, process, with_process}
 use Rattle.host.specs.Acts.{Started}
-use Rattle.scripts.specs.Scripts.{row_within, is_script, opening, row_of, place_of, first_of, pipe, played, script_world}
+use Rattle.scripts.specs.Rows.{row_within, is_script, opening, row_of, place_of, first_of, pipe, played}
+use Rattle.scripts.specs.Scripts.{script_world}
 
 take_set_any : {X : Type 0} (n : ℕ) (xs : List X) (i : ℕ) (x : X) → take n (set xs i x) ≡ set (take n xs) i x
 take_set_any zero xs i x = refl

@@ -4,8 +4,8 @@ ghost use Rattle.std.specs.List.{list_all};
 ghost use Rattle.slices.specs.Answers.{told};
 ghost use Rattle.slices.specs.Names.{name_number};
 ghost use Rattle.host.specs.Acts.{Started, Received, Sent, Ended, Grows, starting, taking, sending, ending, came};
-ghost use Rattle.scripts.specs.Scripts.{part, within, row_within, is_script, place_of, first_of, played, world_of, opening, places, Holds, Keeps, Plays};
 ghost use Rattle.host.specs.Worlds.{process, with_process};
+ghost use Rattle.scripts.specs.Rows.{part, within, row_within, is_script, place_of, first_of, played, opening, places};
 
 use host::fault::{Fault, NotStarted, Snag};
 use host::host::{Host, How};
@@ -38,6 +38,7 @@ pub struct Script<'a> {
     unused: [Option<Row>; 16],
     started: [Option<Row>; 16],
     count: usize,
+    ghost few: { count ≤ 16 },
 }
 
 /// Whether a part lies within the first `n` bytes.
@@ -96,6 +97,8 @@ fn first_of(bytes: &[u8], places: &[Option<Row>], command: &[u8]) -> Option<usiz
 }
 
 impl<'a> Script<'a> {
+    ghost use Rattle.scripts.specs.Scripts.{world_of, Holds, Keeps};
+
     /// A script of these rows over `bytes`, with nothing started; more than 16 rows are none, nor are rows with a part outside the bytes.
     pub fn new(bytes: &'a [u8], rows: &[Row]) -> Result<Script<'a>, OutsideLimits>
         ensures value { told world_of name_number result ≡ (if is_script bytes.now rows.now then Ok (opening bytes.now rows.now) else Err 2) }
@@ -117,11 +120,7 @@ impl<'a> Script<'a> {
         ensures meaning { process (world_of self.now) number ≡ played self.now.bytes.now result }
         ensures inside { is_some result ≡ true → number < 16 }
     {
-        if number < self.count.min(16) {
-            self.started[number]
-        } else {
-            None
-        }
+        *self.started[..self.count].get(number)?
     }
 
     /// Lets a process play this from now on, or nothing any more.
@@ -135,6 +134,8 @@ impl<'a> Script<'a> {
 }
 
 impl Host for Script<'_> {
+    ghost use Rattle.scripts.specs.Scripts.{world_of, Keeps, Plays};
+
     ghost world = { world_of };
 
     ghost capacity = { 16 };

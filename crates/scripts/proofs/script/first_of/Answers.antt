@@ -1,7 +1,7 @@
 use Rattle.std.proofs.Common.{rules, tests, ◌∙◌}
 use Rattle.std.proofs.lemmas.Iterator.{YieldsList-from_slice}
 use Rattle.std.proofs.lemmas.Iterator.Search.{position_from_yields_List}
-use Rattle.scripts.specs.Scripts.{place_of}
+use Rattle.scripts.specs.Rows.{place_of}
 use Rattle.scripts.proofs.Scripted.{position_is}
 use Rattle.scripts.proofs.script.first_of.Goals as goal
 

@@ -1,7 +1,8 @@
 use Rattle.std.proofs.Common.{[], ◌++◌, length, take, drop, ap, ◌∙◌, arith}
 use Rattle.std.proofs.lemmas.Grind.{common_steps}
 use Rattle.host.specs.Worlds.{live, with_process}
-use Rattle.scripts.specs.Scripts.{pipe, world_of}
+use Rattle.scripts.specs.Rows.{pipe}
+use Rattle.scripts.specs.Scripts.{world_of}
 use Rattle.scripts.proofs.Hosts.{received_some}
 use Rattle.scripts.proofs.Scripted.{part_rest, copied}
 use Rattle.scripts.proofs.script.ScriptHost.receive.Goals as goal
