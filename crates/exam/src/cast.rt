@@ -3,9 +3,9 @@ use crate::lines::items;
 use crate::sheet::{ClientCall, Entry, What, read_entry};
 use packetline::encode::line_to_area;
 use packetline::text::number;
-use recording::line;
-use recording::line::hex_bytes;
-use recording::show::{ReadBackError, read_back};
+use recording::failure::Failure;
+use recording::line::{NotHexadecimal, hex_bytes};
+use recording::show::{NotShown, read_back};
 use scripts::script::{Part, Row};
 use std::alloc::{AllocError, AllocFailed, Global};
 
@@ -52,20 +52,20 @@ impl<T: Drop> From<AllocFailed<T>> for Bad {
     }
 }
 
-impl From<ReadBackError> for Bad {
-    fn from(e: ReadBackError) -> Bad {
+impl From<Failure<NotShown>> for Bad {
+    fn from(e: Failure<NotShown>) -> Bad {
         match e {
-            ReadBackError::NotShown => Bad::NotShown,
-            ReadBackError::OutOfMemory => Bad::OutOfMemory,
+            Failure::Refused(NotShown) => Bad::NotShown,
+            Failure::OutOfMemory => Bad::OutOfMemory,
         }
     }
 }
 
-impl From<line::Error> for Bad {
-    fn from(e: line::Error) -> Bad {
+impl From<Failure<NotHexadecimal>> for Bad {
+    fn from(e: Failure<NotHexadecimal>) -> Bad {
         match e {
-            line::Error::OutOfMemory => Bad::OutOfMemory,
-            _ => Bad::NotHexadecimal,
+            Failure::Refused(NotHexadecimal) => Bad::NotHexadecimal,
+            Failure::OutOfMemory => Bad::OutOfMemory,
         }
     }
 }

@@ -1,7 +1,7 @@
 //! What can go wrong with a process and its pipes.
 ghost use Rattle.std.specs.Prelude.{◌≡◌};
 ghost use Rattle.host.specs.declared.fault.LineFault.TheVariants.{Host as of_host, Packet as of_packet, Text as of_text};
-ghost use Rattle.host.specs.Faults.{start_number, fault_number, line_number};
+ghost use Rattle.host.specs.Faults.{start_number, fault_number, line_number, snag_fault};
 
 use packetline::{decode, text};
 use slices::refusal::Numbered;
@@ -43,6 +43,17 @@ impl Numbered for Fault {
 pub enum Snag {
     Broken,
     Other,
+}
+
+impl From<Snag> for Fault {
+    ghost from_gives = { λ s r. r ≡ snag_fault s };
+
+    fn from(s: Snag) -> Fault {
+        match s {
+            Snag::Broken => Fault::Broken,
+            Snag::Other => Fault::Other,
+        }
+    }
 }
 
 /// What ends a call on a process: the host's fault, or a packet that is not one that is wanted.

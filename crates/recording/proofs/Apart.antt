@@ -1,9 +1,11 @@
 -- No two byte strings are shown alike: what is shown can be read back byte by byte.
-use Rattle.std.proofs.Common.{◌≡◌, ℕ, suc, ◌+◌, ◌*◌, ◌/◌, ◌%◌, ◌<◌, Bool, true, false, cond, ◌&&◌, eqb, leb, List, [], ◌∷◌, ◌++◌, length, get_or, take, drop, sym, refl, ap, ◌∙◌, arith}
+use Rattle.std.proofs.Common.{◌≡◌, ℕ, suc, ◌+◌, ◌-◌, ◌*◌, ◌/◌, ◌%◌, ◌<◌, Bool, true, false, cond, ◌&&◌, eqb, leb, List, [], ◌∷◌, ◌++◌, length, get_or, take, drop, Some, None, Option, sym, refl, ap, ◌∙◌, arith}
 use Rattle.std.proofs.lemmas.List.{append_assoc, append-nil, take_more}
 use Rattle.std.proofs.lemmas.Bool.{eqb-true, eqb-false, ne_eqb, cond-false}
 use Rattle.std.proofs.lemmas.Bool.Decides.{nat_tests}
 use Rattle.packetline.specs.Packets.{hex_char}
+use Rattle.std.specs.Option.{unwrap_or}
+use Rattle.recording.specs.Recorded.{DigitRead}
 use Rattle.recording.specs.Shown.{shown, escaped, AllBytes, Unambiguous, digit_value, lead}
 
 -- what stands behind the byte that a text shows first
@@ -16,6 +18,14 @@ Reads b text = (x : List ℕ) → (lead (text ++ x) ≡ b) × (behind (text ++ x
 
 value_char : (d : ℕ) → d < 16 → digit_value (hex_char d) ≡ d
 value_char d h = grind (arith, nat_tests)
+
+-- a byte's value as a digit, or 0
+pub digit_of : (b : ℕ) (d : Option ℕ) → DigitRead b d → unwrap_or d 0 ≡ digit_value b
+digit_of b (Some d) h = sym (ap digit_value h.0 ∙ value_char d h.1)
+digit_of b None h =
+    let decimal = h (b - 48) in
+    let letter = h (b - 87) in
+    grind (arith, nat_tests)
 
 plain : (b : ℕ) (t : Bool) → b < 256 → (b ≡ 92 → ⊥) → Reads b (cond t (b ∷ []) (92 ∷ 120 ∷ hex_char (b / 16) ∷ hex_char (b % 16) ∷ []))
 plain b true h n x = (cond-false (eqb b 92) _ b (ne_eqb b 92 n), cond-false (eqb b 92) _ x (ne_eqb b 92 n))

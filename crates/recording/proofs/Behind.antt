@@ -3,8 +3,8 @@ use Rattle.std.proofs.Common.{◌≡◌, ℕ, List, [], ◌∷◌, length, drop,
 use Rattle.std.proofs.lemmas.List.{nil_from_length}
 use Rattle.recording.specs.declared.line.Direction.{Direction}
 use Rattle.recording.specs.declared.line.Direction.TheVariants.{Sent, Given}
-use Rattle.recording.specs.declared.line.Error.TheVariants.{NoBytes}
-use Rattle.recording.specs.Recorded.{hex_of, sign, record_line, NoLine}
+use Rattle.recording.specs.declared.line.BadLine.TheVariants.{NoBytes}
+use Rattle.recording.specs.Recorded.{sign, NoLine}
 use Rattle.recording.proofs.Hexadecimal.{hex_length}
 
 -- a sign begins no comment
@@ -12,12 +12,7 @@ sign_some : (d : Direction) → sign d ≡ 35 → ⊥
 sign_some Sent e = omega arith
 sign_some Given e = omega arith
 
--- what follows a sign and a blank: digits
-pub record_is : (d : Direction) (rest digits bytes : List ℕ) (b : ℕ) → rest ≡ b ∷ digits → b ≡ 32 → digits ≡ hex_of bytes
-    → sign d ∷ rest ≡ record_line d bytes
-record_is d rest digits bytes b e blank h = cc
-
--- nothing
+-- a blank that nothing follows
 pub no_bytes : (d : Direction) (rest digits : List ℕ) (b : ℕ) → rest ≡ b ∷ digits → b ≡ 32 → length digits ≡ 0 → NoLine NoBytes (sign d ∷ rest)
 no_bytes d rest digits b e blank z =
     let only : rest ≡ 32 ∷ [] = let nil = nil_from_length digits z in cc in

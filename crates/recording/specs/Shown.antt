@@ -3,8 +3,9 @@ use Rattle.std.specs.Prelude.{◌≡◌, ℕ, ◌+◌, ◌-◌, ◌*◌, ◌/◌
 use Rattle.std.specs.Borrow.{Bor}
 use Rattle.std.specs.declared.alloc.Global.{Global}
 use Rattle.packetline.specs.Packets.{hex_char}
-use Rattle.recording.specs.declared.show.ReadBackError.{ReadBackError}
-use Rattle.recording.specs.declared.show.ReadBackError.TheVariants.{NotShown, OutOfMemory}
+use Rattle.recording.specs.declared.failure.Failure.{Failure}
+use Rattle.recording.specs.declared.failure.Failure.TheVariants.{Refused, OutOfMemory}
+use Rattle.recording.specs.declared.show.NotShown.{NotShown}
 
 -- a byte: itself if it is printable ASCII; after a backslash a backslash, a quotation mark, n for LF, or x and two hexadecimal digits
 abbrev pub shown : ℕ → List ℕ
@@ -26,9 +27,9 @@ abbrev pub Unambiguous : Type 0
 Unambiguous = (xs ys : List ℕ) → AllBytes xs → AllBytes ys → escaped xs ≡ escaped ys → xs ≡ ys
 
 -- the bytes that a text shows; it is refused only if it shows none, and where memory runs out nothing is said
-abbrev pub ReadBack : List ℕ → Result (Vec ℕ Global) ReadBackError → Type 0
+abbrev pub ReadBack : List ℕ → Result (Vec ℕ Global) (Failure NotShown) → Type 0
 ReadBack text (Ok v) = (text ≡ escaped (vec_items v)) × AllBytes (vec_items v)
-ReadBack text (Err NotShown) = (bytes : List ℕ) → AllBytes bytes → text ≢ escaped bytes
+ReadBack text (Err (Refused _)) = (bytes : List ℕ) → AllBytes bytes → text ≢ escaped bytes
 ReadBack text (Err OutOfMemory) = Unit {0}
 
 -- The parts of a text that is read back

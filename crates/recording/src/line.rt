@@ -1,9 +1,11 @@
 //! One line of a recording.
-ghost use Rattle.std.specs.Prelude.{◌≡◌, ◌∷◌};
-ghost use Rattle.recording.specs.declared.line.Error.TheVariants.{OutOfMemory};
-ghost use Rattle.recording.specs.Recorded.{sign, DigitRead, ByteRead, BytesRead, Parsed};
+ghost use Rattle.std.specs.Prelude.{◌≡◌, ◌∷◌, Some};
+ghost use Rattle.recording.specs.Recorded.{sign, DigitRead, ByteRead, BytesRead, Parsed, bad_line_text, of_digits};
 
-use std::alloc::{AllocError, AllocFailed, Global};
+use crate::failure::Failure;
+use std::alloc::Global;
+use std::error::Error;
+use std::fmt;
 
 /// Who sent the bytes of a record: the client, or the process that gave them to it.
 #[derive(Clone, Copy, PartialEq, Eq, Debug)]
@@ -12,36 +14,49 @@ pub enum Direction {
     Given,
 }
 
-/// What a line says.
+/// The bytes that a line records.
 #[derive(Drop, Debug)]
-pub enum Entry {
-    Nothing,
-    Record(Direction, Vec<u8>),
+pub struct Record {
+    pub direction: Direction,
+    pub bytes: Vec<u8>,
 }
 
 /// Why a line is neither a comment nor a record.
 #[derive(Clone, Copy, PartialEq, Eq, Debug)]
-pub enum Error {
+pub enum BadLine {
     NoDirection,
     NoBlank,
     NoBytes,
     NotHexadecimal,
-    OutOfMemory,
 }
 
-impl From<AllocError> for Error {
-    ghost from_gives = { λ _ r. r ≡ OutOfMemory };
+impl fmt::Display for BadLine {
+    ghost output = { λ e. Some (bad_line_text e) };
 
-    fn from(_e: AllocError) -> Error {
-        Error::OutOfMemory
+    fn fmt<W: fmt::Write>(&self, f: &mut fmt::Formatter<W>) -> fmt::Result {
+        f.write_str(match self {
+            BadLine::NoDirection => "it begins with neither > nor < nor #",
+            BadLine::NoBlank => "no blank follows its sign",
+            BadLine::NoBytes => "it has no bytes",
+            BadLine::NotHexadecimal => "its bytes are not pairs of lower-case hexadecimal digits",
+        })
     }
 }
 
-impl<T: Drop> From<AllocFailed<T>> for Error {
-    ghost from_gives = { λ _ r. r ≡ OutOfMemory };
+impl Error for BadLine {}
 
-    fn from(_e: AllocFailed<T>) -> Error {
-        Error::OutOfMemory
+/// Digits that write no bytes.
+#[derive(Clone, Copy, PartialEq, Eq, Debug)]
+pub struct NotHexadecimal;
+
+impl From<Failure<NotHexadecimal>> for Failure<BadLine> {
+    ghost from_gives = { λ e r. r ≡ of_digits e };
+
+    fn from(e: Failure<NotHexadecimal>) -> Failure<BadLine> {
+        match e {
+            Failure::Refused(NotHexadecimal) => Failure::Refused(BadLine::NotHexadecimal),
+            Failure::OutOfMemory => Failure::OutOfMemory,
+        }
     }
 }
 
@@ -64,16 +79,17 @@ fn hex_byte(high: u8, low: u8) -> Option<u8>
 }
 
 /// The bytes that digits write, two digits a byte.
-pub fn hex_bytes(heap: Global, digits: &[u8]) -> Result<Vec<u8>, Error>
+pub fn hex_bytes(heap: Global, digits: &[u8]) -> Result<Vec<u8>, Failure<NotHexadecimal>>
     ensures { BytesRead digits.now result }
 {
-    if digits.len() % 2 != 0 {
-        return Err(Error::NotHexadecimal);
+    let (pairs, odd) = digits.as_chunks::<2>();
+    if !odd.is_empty() {
+        return Err(Failure::Refused(NotHexadecimal));
     }
     let mut bytes = Vec::new(heap);
-    for i in 0..digits.len() / 2 {
-        let Some(b) = hex_byte(digits[2 * i], digits[2 * i + 1]) else {
-            return Err(Error::NotHexadecimal);
+    for &[high, low] in pairs {
+        let Some(b) = hex_byte(high, low) else {
+            return Err(Failure::Refused(NotHexadecimal));
         };
         bytes.push(b)?;
     }
@@ -81,27 +97,31 @@ pub fn hex_bytes(heap: Global, digits: &[u8]) -> Result<Vec<u8>, Error>
 }
 
 /// What stands behind the sign of a record: a blank, and the digits of one byte or more.
-fn record(heap: Global, direction: Direction, rest: &[u8]) -> Result<Entry, Error>
+fn read_record(
+    heap: Global,
+    direction: Direction,
+    rest: &[u8],
+) -> Result<Option<Record>, Failure<BadLine>>
     ensures { Parsed (sign direction ∷ rest.now) result }
 {
     let Some((b' ', digits)) = rest.split_first() else {
-        return Err(Error::NoBlank);
+        return Err(Failure::Refused(BadLine::NoBlank));
     };
     if digits.is_empty() {
-        return Err(Error::NoBytes);
+        return Err(Failure::Refused(BadLine::NoBytes));
     }
     let bytes = hex_bytes(heap, digits)?;
-    Ok(Entry::Record(direction, bytes))
+    Ok(Some(Record { direction, bytes }))
 }
 
-/// Reads a line: nothing, or a record.
-pub fn parse(heap: Global, line: &[u8]) -> Result<Entry, Error>
+/// Reads a line: a record, or nothing.
+pub fn parse(heap: Global, line: &[u8]) -> Result<Option<Record>, Failure<BadLine>>
     ensures { Parsed line.now result }
 {
     match line.split_first() {
-        None | Some((b'#', _)) => Ok(Entry::Nothing),
-        Some((b'>', rest)) => record(heap, Direction::Sent, rest),
-        Some((b'<', rest)) => record(heap, Direction::Given, rest),
-        Some(_) => Err(Error::NoDirection),
+        None | Some((b'#', _)) => Ok(None),
+        Some((b'>', rest)) => read_record(heap, Direction::Sent, rest),
+        Some((b'<', rest)) => read_record(heap, Direction::Given, rest),
+        Some(_) => Err(Failure::Refused(BadLine::NoDirection)),
     }
 }

@@ -1,34 +1,16 @@
 //! Bytes shown to a person, each so that it can be told from every other.
 ghost use Rattle.std.specs.Prelude.{◌≡◌, ◌/◌, ◌%◌, ◌<◌, [], ◌∷◌, ◌++◌, IfOk, string_bytes, OnOk, slice_index};
 ghost use Rattle.packetline.specs.Packets.{hex_char};
-ghost use Rattle.recording.specs.declared.show.ReadBackError.TheVariants.{OutOfMemory};
 ghost use Rattle.recording.specs.Shown.{shown, escaped, Unambiguous, ReadBack, Behind, digit_value, lead};
 
+use crate::failure::Failure;
 use crate::line::hex_value;
-use std::alloc::{AllocError, AllocFailed, Global};
+use packetline::line::after;
+use std::alloc::{AllocError, Global};
 
-/// Why a text is not read back.
+/// A text that shows no bytes.
 #[derive(Clone, Copy, PartialEq, Eq, Debug)]
-pub enum ReadBackError {
-    NotShown,
-    OutOfMemory,
-}
-
-impl From<AllocError> for ReadBackError {
-    ghost from_gives = { λ _ r. r ≡ OutOfMemory };
-
-    fn from(_e: AllocError) -> ReadBackError {
-        ReadBackError::OutOfMemory
-    }
-}
-
-impl<T: Drop> From<AllocFailed<T>> for ReadBackError {
-    ghost from_gives = { λ _ r. r ≡ OutOfMemory };
-
-    fn from(_e: AllocFailed<T>) -> ReadBackError {
-        ReadBackError::OutOfMemory
-    }
-}
+pub struct NotShown;
 
 /// A hexadecimal digit in lower case.
 fn hex_char(d: u8) -> char
@@ -36,11 +18,7 @@ fn hex_char(d: u8) -> char
     ensures value { result ≡ hex_char d }
     ensures ascii { result < 128 }
 {
-    if d < 10 {
-        (b'0' + d) as char
-    } else {
-        (b'a' + (d - 10)) as char
-    }
+    char::from_digit(u32::from(d), 16).unwrap()
 }
 
 /// A byte by its two digits behind a text.
@@ -67,6 +45,7 @@ fn push_byte(text: &mut String, b: u8) -> Result<(), AllocError>
 }
 
 /// Bytes as a text: printable ASCII as it is, the rest behind a backslash.
+#[tactic(auto, using(crate::proofs::Apart::escaped_more))]
 pub fn escape(heap: Global, bytes: &[u8]) -> Result<String, AllocError>
     ensures value { IfOk result (λ t. string_bytes t ≡ escaped bytes.now) }
     ensures apart { Unambiguous }
@@ -82,18 +61,16 @@ pub fn escape(heap: Global, bytes: &[u8]) -> Result<String, AllocError>
 fn byte_at(text: &[u8], i: usize) -> u8
     ensures { result ≡ slice_index text.now i }
 {
-    if i < text.len() { text[i] } else { 0 }
+    text.get(i).copied().unwrap_or(0)
 }
 
 /// The value of a hexadecimal digit in lower case, or 0.
+#[tactic(auto, using(crate::proofs::Apart::digit_of))]
 fn digit_value(b: u8) -> u8
     ensures value { result ≡ digit_value b }
     ensures small { result < 16 }
 {
-    match hex_value(b) {
-        Some(d) => d,
-        None => 0,
-    }
+    hex_value(b).unwrap_or(0)
 }
 
 /// The byte that a text shows first, if it shows any.
@@ -109,13 +86,6 @@ fn lead(text: &[u8]) -> u8
         b'x' => digit_value(byte_at(text, 2)) * 16 + digit_value(byte_at(text, 3)),
         second => second,
     }
-}
-
-/// What stands behind a prefix.
-fn after<'a>(prefix: &[u8], text: &'a [u8]) -> Option<&'a [u8]>
-    ensures { Behind text.now prefix.now result }
-{
-    text.strip_prefix(prefix)
 }
 
 /// What stands behind one byte as it is shown.
@@ -135,7 +105,7 @@ fn behind(text: &[u8], b: u8) -> Option<&[u8]>
 }
 
 /// The bytes that a text shows: exactly the texts that `escape` writes are taken.
-pub fn read_back(heap: Global, text: &[u8]) -> Result<Vec<u8>, ReadBackError>
+pub fn read_back(heap: Global, text: &[u8]) -> Result<Vec<u8>, Failure<NotShown>>
     ensures { ReadBack text.now result }
 {
     let mut bytes = Vec::new(heap);
@@ -143,7 +113,7 @@ pub fn read_back(heap: Global, text: &[u8]) -> Result<Vec<u8>, ReadBackError>
     while !rest.is_empty() {
         let b = lead(rest);
         let Some(tail) = behind(rest, b) else {
-            return Err(ReadBackError::NotShown);
+            return Err(Failure::Refused(NotShown));
         };
         bytes.push(b)?;
         rest = tail;

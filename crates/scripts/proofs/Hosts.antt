@@ -1,40 +1,20 @@
 -- What an implementation of a host shows, by the process that its call is about.
-use Rattle.std.proofs.Common.{◌≡◌, ℕ, ◌-◌, ◌<◌, ◌≤◌, leb, List, [], ◌++◌, length, take, drop, set, Some, None, Ok, Err, sym, refl, ap, ◌∙◌, arith}
+use Rattle.std.proofs.Common.{◌≡◌, ℕ, ◌-◌, ◌<◌, ◌≤◌, leb, List, [], ◌++◌, length, take, drop, set, Ok, Err, sym, refl, ap, ◌∙◌, arith}
 use Rattle.std.proofs.lemmas.List.{length-take-le, set-get_or}
 use Rattle.std.proofs.lemmas.Bool.{le-leb, lt-leb, cond-true, cond-false}
 use Rattle.packetline.specs.Packets.{over}
 use Rattle.host.specs.declared.fault.Fault.{Fault}
 use Rattle.host.specs.declared.fault.Fault.TheVariants.{Broken}
 use Rattle.host.specs.Faults.{snag_fault}
-use Rattle.host.specs.Worlds.{Reply, Pipe, Process, gone, live, World, process, with_process, waiting_of, stop_of, less}
-use Rattle.host.specs.Acts.{Received, Sent, Act, Log, refusal_of, sent_to, sent, some_wait}
-
--- where no log is kept none has grown
-pub no_log : (l : List Act) → ◌≡◌ {A = Log} None (Some l) → ⊥
-no_log l e = let z : ◌≡◌ {A = ℕ} 0 1 = cc in omega arith
+use Rattle.host.specs.Worlds.{Reply, Pipe, Process, gone, live, World, process, with_process, waiting_of, less}
+use Rattle.host.specs.Acts.{Received, Sent, refusal_of, sent_to, sent, some_wait}
 
 module _ (w : World) (p : ℕ) where
   -- the world with a process as it was
   same : (q : Process) → q ≡ process w p → with_process w p q ≡ w
   same q e = ap (λ ps. record { procs = ps; startable = w.startable }) (ap (set w.procs p) e ∙ set-get_or w.procs p gone)
 
-  less_none : (q : Process) → less 0 q ≡ q
-  less_none gone = refl
-  less_none (live q) = refl
-
-  -- an empty area gets nothing
-  pub received_none : (area : List ℕ) → length area ≡ 0 → Received w p area (Ok 0) w area
-  received_none area h = (omega arith, omega arith, (λ l. absurd (omega arith)), sym (same _ (less_none (process w p))), refl)
-
-  -- a process that is not open
-  pub received_gone : (area : List ℕ) → 0 < length area → process w p ≡ gone → Received w p area (Err Broken) w area
-  received_gone area h e = (h, ap waiting_of e, sym (ap stop_of e), refl, refl)
-
   module _ (q : Pipe) (e : process w p ≡ live q) where
-    -- an open process where nothing waits
-    pub received_end : (area : List ℕ) → 0 < length area → q.waiting ≡ [] → Received w p area (Err q.ending) w area
-    received_end area h z = (h, ap waiting_of e ∙ z, sym (ap stop_of e), refl, refl)
-
     -- an open process where n bytes are taken
     pub received_some : (area area' : List ℕ) (n : ℕ) (w' : World) → 0 < n → n ≤ length area → n ≤ length q.waiting
         → w' ≡ with_process w p (less n (live q)) → area' ≡ take n q.waiting ++ drop n area → Received w p area (Ok n) w' area'

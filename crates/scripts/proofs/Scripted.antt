@@ -1,17 +1,26 @@
 -- The script host keeps the host's meaning.
-use Rattle.std.proofs.Common.{◌≡◌, ℕ, zero, suc, ◌+◌, ◌-◌, ◌<◌, ◌≤◌, min, Bool, true, false, cond, ◌&&◌, List, [], ◌∷◌, ◌++◌, map, length, get_or, take, drop, set, replicate, is_some, Some, None, Ok, Err, Option, Result, sym, refl, ap, ◌∙◌, ⊎_elim, arith}
+use Rattle.std.proofs.Common.{◌≡◌, ℕ, zero, suc, ◌+◌, ◌-◌, ◌<◌, ◌≤◌, min, Bool, true, false, cond, not, ltb, subst, List, [], ◌∷◌, ◌++◌, map, length, get_or, take, drop, set, replicate, is_some, Some, None, Ok, Err, Option, Result, sym, refl, ap, ◌∙◌, ⊎_elim, arith}
 use mathlib.Core.Path.{fun_ext}
 use borrow.Rule.Slice.PartMut.{post_of}
-use Rattle.std.proofs.lemmas.List.{append_assoc, get_or-take, get_or-set_same, get_or_default, get_or_past, map-set, map_push, length-map, length-take, length-take-le, length-drop, drop_all, drop-drop, drop-take, take_all, take_more, take_more_set, set-append_right, at_drop_more, at_drop_all}
-use Rattle.std.proofs.lemmas.Bool.{cases_lt, cond-true, and_from, and_right, le-leb, lt-ltb, le-ltb, false≢true}
-use Rattle.slices.proofs.Searches.{first_is, first_turn}
+use Rattle.std.proofs.lemmas.List.{get_or-take, get_or-set_same, map-set, map_push, length-map, length-take, drop-drop, drop-take, take_more_set}
+use Rattle.std.proofs.Math.ListN.{get_or-map}
+use Rattle.std.proofs.lemmas.Bool.{cases_lt, cond-true, and_from, le-leb, lt-ltb, false≢true}
+use Rattle.std.specs.List.{list_all, slice_get, position_or_len}
+use Rattle.std.proofs.lemmas.Bool.Decides.{nat_tests}
+use Rattle.std.proofs.lemmas.Option.{slice_get_past, slice_get_read}
+use Rattle.std.specs.Slice.{IsItemAt}
+use Rattle.std.specs.Option.{option_copied}
+use Rattle.std.specs.Borrow.{Bor}
+use Rattle.std.specs.Fn.{Called}
+use Rattle.std.specs.Array.{IsFromFnResultFrom}
+use denote.Param.Members.{Mut}
+use Rattle.slices.proofs.Searches.{first_is}
 use Rattle.slices.specs.First.{first_from}
-use Rattle.host.specs.declared.fault.NotStarted.{NotStarted}
-use Rattle.scripts.specs.declared.script.Part.{Part}
 use Rattle.scripts.specs.declared.script.Row.{Row}
-use Rattle.host.specs.Worlds.{gone, live, World, process, with_process}
+use Rattle.host.specs.Worlds.{live, World, process, with_process}
 use Rattle.host.specs.Acts.{Started}
-use Rattle.scripts.specs.Scripts.{part, row_within, all, is_script, opening, row_of, place_of, first_of, pipe, played, script_world}
+use Rattle.scripts.specs.Rows.{row_within, is_script, opening, row_of, place_of, first_of, pipe, played}
+use Rattle.scripts.specs.Scripts.{script_world}
 
 take_set_any : {X : Type 0} (n : ℕ) (xs : List X) (i : ℕ) (x : X) → take n (set xs i x) ≡ set (take n xs) i x
 take_set_any zero xs i x = refl
@@ -20,12 +29,6 @@ take_set_any (suc n) (y ∷ ys) zero x = refl
 take_set_any (suc n) (y ∷ ys) (suc i) x = ap (λ l. y ∷ l) (take_set_any n ys i x)
 
 -- parts
-
--- what is taken from a part lies within it and within the bytes
-pub part_bounds : (bytes : List ℕ) (p : Part) (n : ℕ) (waiting : List ℕ) → waiting ≡ part bytes p → 0 < n → n ≤ length waiting → (p.at + n ≤ length bytes) × (n ≤ p.len)
-part_bounds bytes p n waiting e h l =
-    let m : length waiting ≡ min p.len (length bytes - p.at) = ap length e ∙ length-take p.len (drop p.at bytes) ∙ ap (min p.len) (length-drop p.at bytes) in
-    (omega arith, omega arith)
 
 -- a part without its first n bytes
 pub part_rest : (bytes : List ℕ) (at len n : ℕ) → n ≤ len → take (len - n) (drop (at + n) bytes) ≡ drop n (take len (drop at bytes))
@@ -38,59 +41,48 @@ copied waiting area copy n e =
     let z : n - 0 ≡ n = omega arith in
     ap (λ l. l ++ drop (n - 0) area) e ∙ ap (λ m. take m waiting ++ drop m area) z
 
-take_min : {X : Type 0} (n m : ℕ) (xs : List X) → length xs ≡ m → take (min n m) xs ≡ take n xs
-take_min n m xs e =
-    ⊎_elim (λ h. ap (λ k. take k xs) (omega arith)) (λ h. take_all (min n m) xs (omega arith) ∙ sym (take_all n xs (omega arith))) (cases_lt n m)
-
-drop_min : {X : Type 0} (n : ℕ) (xs : List X) → drop (min n (length xs)) xs ≡ drop n xs
-drop_min n xs =
-    ⊎_elim (λ h. ap (λ k. drop k xs) (omega arith)) (λ h. drop_all (min n (length xs)) xs (omega arith) ∙ sym (drop_all n xs (omega arith))) (cases_lt n (length xs))
-
-pub clipped : (bytes : List ℕ) (at len from to : ℕ) → from ≡ min at (length bytes) → to ≡ from + min len (length bytes - from)
-    → take (to - from) (drop from bytes) ≡ take len (drop at bytes)
-clipped bytes at len from to e f =
-    ap (λ k. take k (drop from bytes)) (omega arith) ∙ take_min len (length bytes - from) (drop from bytes) (length-drop from bytes)
-    ∙ ap (λ k. take len (drop k bytes)) e ∙ ap (take len) (drop_min at bytes)
-
--- each row is within
-
-module _ {X : Type 0} (p : X → Bool) (xs : List X) (i : ℕ) (inv : all p (drop i xs) ≡ all p xs) where
-  pub all_turn : (d : X) (t : Bool) → i < length xs → t ≡ p (get_or xs i d) → (t && all p (drop (i + 1) xs)) ≡ all p xs
-  all_turn d t l h = ap (λ b. b && all p (drop (i + 1) xs)) h ∙ sym (at_drop_more (all p) xs i d l) ∙ inv
-
-  pub all_end : length xs ≤ i → true ≡ all p xs
-  all_end l = sym (at_drop_all (all p) xs i l) ∙ inv
-
 -- rows in places of their own
+pub placed_is : (rows : List Row) (n : ℕ) (places : List (Option Row)) → length rows ≤ n → length places ≡ n
+    → ((i : ℕ) → i < n → get_or places i None ≡ slice_get rows i) → places ≡ map Some rows ++ replicate (n - length rows) None
+placed_is [] zero [] h l each = refl
+placed_is [] (suc n) (p ∷ ps) h l each =
+    let first : p ≡ None = each 0 (omega arith) in
+    let rest = placed_is [] n ps (omega arith) (omega arith) (λ i k. each (suc i) (omega arith)) in
+    ap (λ o. o ∷ ps) first ∙ ap (λ os. None ∷ os) (rest ∙ ap (λ m. replicate m None) {y = n} (omega arith)) ∙ ap (λ m. replicate m None) {x = suc n} (omega arith)
+placed_is (row ∷ rows) (suc n) (p ∷ ps) h l each =
+    let first : p ≡ Some row = each 0 (omega arith) in
+    let rest = placed_is rows n ps (omega arith) (omega arith) (λ i k. each (suc i) (omega arith)) in
+    ap (λ o. o ∷ ps) first ∙ ap (λ os. Some row ∷ os) (rest ∙ ap (λ m. map Some rows ++ replicate m None) (omega arith))
+placed_is rows n [] h l each = absurd (omega arith)
+placed_is rows zero (p ∷ ps) h l each = absurd (omega arith)
 
-pub placed_turn : (rows : List Row) (i : ℕ) (d : Row) (places : List (Option Row)) → i < length rows → length rows ≤ 16
-    → places ≡ map Some (take i rows) ++ replicate (16 - i) None → set places i (Some (get_or rows i d)) ≡ map Some (take (i + 1) rows) ++ replicate (16 - (i + 1)) None
-placed_turn rows i d places l h inv =
-    let row = get_or rows i d in
-    let before = map Some (take i rows) in
-    let len : length before ≡ i = length-map (take i rows) Some ∙ length-take-le i rows (omega arith) in
-    let one : 16 - i ≡ suc (16 - (i + 1)) = omega arith in
-    let off : i - i ≡ 0 = omega arith in
-    ap (λ l. set l i (Some row)) inv
-    ∙ set-append_right before (replicate (16 - i) None) i i (Some row) len (omega arith)
-    ∙ ap (λ k. before ++ set (replicate (16 - i) None) k (Some row)) off
-    ∙ ap (λ k. before ++ set (replicate k None) 0 (Some row)) one
-    ∙ sym (append_assoc before (Some row ∷ []) (replicate (16 - (i + 1)) None))
-    ∙ ap (λ l. l ++ replicate (16 - (i + 1)) None)
-    (sym (map_push Some (take i rows) row) ∙ ap (map Some) (sym (take_more rows i d l)))
+-- what `get` answers
+pub got : {X : Type 0} (xs : List X) (i : ℕ) (r : Option (Bor X)) → IsItemAt xs i r → option_copied r ≡ slice_get xs i
+got xs i None h = sym (slice_get_past xs i h.3)
+got xs i (Some x) h = sym (slice_get_read xs (length xs) i x.now refl h.3.0 h.1)
 
-pub placed_end : (rows : List Row) (i : ℕ) (places : List (Option Row)) → i ≤ length rows → length rows ≤ i
-    → places ≡ map Some (take i rows) ++ replicate (16 - i) None → places ≡ map Some rows ++ replicate (16 - length rows) None
-placed_end rows i places h k inv =
-    let e : i ≡ length rows = omega arith in
-    inv ∙ ap (λ l. map Some l ++ replicate (16 - i) None) (take_all i rows k) ∙ ap (λ n. map Some rows ++ replicate (16 - n) None) e
+-- what `from_fn` gives by a closure that answers v i at i and stays as it is
+pub from_each : {F B : Type 0} (g : Mut F (ℕ × Unit {0}) B) (v : ℕ → B) (f : F) → ((i : ℕ) (y : B) (q : F) → Called g f (i, tt) y q → (q ≡ f) × (y ≡ v i))
+    → (p : F) (ys : List B) (i n : ℕ) → p ≡ f → IsFromFnResultFrom g p ys i n → (k : ℕ) (d : B) → i ≤ k → k < i + n → get_or ys k d ≡ v k
+from_each g v f only p ys i zero e h k d a b = absurd (omega arith)
+from_each g v f only p ys i (suc n) e h k d a b =
+    let o = only i h.1 h.0 (subst (λ x. Called g x (i, tt) h.1 h.0) e h.3) in
+    ⊎_elim (λ l. from_each g v f only h.0 ys (i + 1) n o.0 h.4 k d (omega arith) (omega arith))
+    (λ l. let z : k ≡ i = omega arith in ap (λ j. get_or ys j d) z ∙ h.2.1 d ∙ o.1 ∙ ap v (sym z)) (cases_lt i k)
 
--- one turn of the search at place i, where t is what its test said
-pub search_turn : (bytes command : List ℕ) (places : List (Option Row)) (i : ℕ) (t : Bool) → i < length places → t ≡ place_of bytes command (get_or places i None)
-    → first_from (place_of bytes command) i (drop i places) ≡ first_of bytes command places
-    → cond t (Some i) (first_from (place_of bytes command) (i + 1) (drop (i + 1) places)) ≡ first_of bytes command places
-search_turn bytes command places i t l h inv =
-    first_turn (place_of bytes command) places i (get_or places i None) t l (get_or_default places i None (get_or places i None) l) h inv
+-- what `position` answers
+turn : (b : Bool) (i n m : ℕ) (r : Option ℕ) → cond (ltb n m) (Some (i + 1 + n)) None ≡ r
+    → cond (ltb (cond (not b) (1 + n) 0) (suc m)) (Some (i + cond (not b) (1 + n) 0)) None ≡ cond b (Some i) r
+turn true i n m r e = grind (arith, nat_tests)
+turn false i n m r e = grind (arith, nat_tests)
+
+first_position : {X : Type 0} (p : X → Bool) (i : ℕ) (xs : List X)
+    → cond (ltb (position_or_len p xs) (length xs)) (Some (i + position_or_len p xs)) None ≡ first_from p i xs
+first_position p i [] = refl
+first_position p i (x ∷ xs) = turn (p x) i (position_or_len p xs) (length xs) (first_from p (i + 1) xs) (first_position p (i + 1) xs)
+
+pub position_is : {X : Type 0} (p : X → Bool) (xs : List X) → cond (ltb (position_or_len p xs) (length xs)) (Some (position_or_len p xs)) None ≡ first_from p 0 xs
+position_is p xs = ap (λ n. cond (ltb (position_or_len p xs) (length xs)) (Some n) None) {y = 0 + position_or_len p xs} (omega arith) ∙ first_position p 0 xs
 
 -- the first of them, with or without their places
 
@@ -107,7 +99,7 @@ first_in_places bytes command i n (row ∷ rows) =
 
 -- a new script
 pub made : (bytes : List ℕ) (rows : List Row) (n : ℕ) (places : List (Option Row)) → places ≡ map Some rows ++ replicate n None
-    → length rows ≤ 16 → true ≡ all (row_within (length bytes)) rows
+    → length rows ≤ 16 → true ≡ list_all (row_within (length bytes)) rows
     → ◌≡◌ {A = Result World ℕ} (Ok (script_world bytes places [] 0)) (cond (is_script bytes rows) (Ok (opening bytes rows)) (Err 2))
 made bytes rows n places e few h =
     let opened : (List ℕ → Bool) → Result World ℕ = λ f. Ok (record { procs = []; startable = f }) in
@@ -116,18 +108,7 @@ made bytes rows n places e few h =
 
 -- the processes
 
-played_at : (bytes : List ℕ) (places : List (Option Row)) (p : ℕ) → get_or (map (played bytes) places) p gone ≡ played bytes (get_or places p None)
-played_at bytes [] p = refl
-played_at bytes (x ∷ xs) zero = refl
-played_at bytes (x ∷ xs) (suc p) = played_at bytes xs p
-
 module _ (bytes : List ℕ) (unused started : List (Option Row)) (count : ℕ) where
-  pub process_in : (p : ℕ) → p < count → process (script_world bytes unused started count) p ≡ played bytes (get_or started p None)
-  process_in p h = played_at bytes (take count started) p ∙ ap (played bytes) (get_or-take count started p None h)
-
-  pub process_out : (p : ℕ) → min count (length started) ≤ p → process (script_world bytes unused started count) p ≡ gone
-  process_out p h = played_at bytes (take count started) p ∙ ap (played bytes) (get_or_past (take count started) p None (simp length-take (omega arith)))
-
   pub plays : (p : ℕ) (place : Option Row) → script_world bytes unused (set started p place) count ≡ with_process (script_world bytes unused started count) p (played bytes place)
   plays p place =
       ap (λ ps. record { procs = ps; startable = λ command. is_some (first_of bytes command unused) })
@@ -137,9 +118,6 @@ module _ (bytes : List ℕ) (unused started : List (Option Row)) (count : ℕ) w
   module _ (command : List ℕ) (all-places : length started ≡ 16) where
     procs_length : length (map (played bytes) (take count started)) ≡ min count 16
     procs_length = length-map (take count started) (played bytes) ∙ length-take count started ∙ ap (min count) all-places
-
-    pub starts_none : (refusal : NotStarted) → 16 ≤ count → Started 16 (script_world bytes unused started count) command (Err refusal) (script_world bytes unused started count)
-    starts_none refusal h = (and_right _ _ (le-ltb (length (map (played bytes) (take count started))) 16 (omega (arith, procs_length))), refl)
 
     module _ (i : ℕ) (few : count < 16) (here : i < length unused) (is : Some i ≡ first_of bytes command unused) where
       abbrev place : Option Row
@@ -168,5 +146,5 @@ module _ (bytes : List ℕ) (unused started : List (Option Row)) (count : ℕ) w
 
       pub newcomer : process after count ≡ live (pipe bytes there.0)
       newcomer =
-          played_at bytes (take (count + 1) (set started count place)) count
+          get_or-map (played bytes) (take (count + 1) (set started count place)) count None
           ∙ ap (played bytes) (get_or-take (count + 1) (set started count place) count None (omega arith) ∙ get_or-set_same started count place None (omega arith) ∙ there.1)

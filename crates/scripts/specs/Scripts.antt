@@ -1,60 +1,11 @@
 -- What a script host means: each started process plays the bytes of its row.
-use Rattle.std.specs.Prelude.{◌≡◌, ℕ, ◌+◌, ◌-◌, Bool, true, false, ◌&&◌, List, [], ◌∷◌, ◌++◌, map, length, take, drop, replicate, is_some, Some, None, Ok, Err, Option, Result, nat_le, slice_index_or, slice_set}
-use Rattle.std.specs.Str.{bytes_eq}
-use Rattle.slices.specs.First.{first_from}
+use Rattle.std.specs.Prelude.{◌≡◌, ℕ, List, map, take, is_some, Some, None, Ok, Err, Option, Result, slice_index_or, slice_set}
+use Rattle.slices.specs.declared.name.OutsideLimits.{OutsideLimits}
 use Rattle.host.specs.declared.fault.NotStarted.{NotStarted}
-use Rattle.scripts.specs.declared.script.OutsideLimits.{OutsideLimits}
-use Rattle.scripts.specs.declared.script.Part.{Part}
 use Rattle.scripts.specs.declared.script.Row.{Row}
 use Rattle.scripts.specs.declared.script.Script.{Script}
-use Rattle.host.specs.Worlds.{Pipe, Process, gone, live, World, process}
-
--- the number of the refusal of rows that are no script
-abbrev pub script_number : OutsideLimits → ℕ
-script_number _ = 2
-
--- the bytes of a part
-abbrev pub part : List ℕ → Part → List ℕ
-part bytes p = take p.len (drop p.at bytes)
-
--- a part that lies within the first n bytes
-abbrev pub within : ℕ → Part → Bool
-within n p = nat_le (p.at + p.len) n
-
--- a row whose two parts lie within the first n bytes
-abbrev pub row_within : ℕ → Row → Bool
-row_within n row = within n row.command && within n row.plays
-
--- each element passes
-abbrev pub all : {X : Type 0} → (X → Bool) → List X → Bool
-all p [] = true
-all p (x ∷ xs) = p x && all p xs
-
--- at most 16 rows, each within the bytes
-abbrev pub is_script : List ℕ → List Row → Bool
-is_script bytes rows = nat_le (length rows) 16 && all (row_within (length bytes)) rows
-
--- a row of this command
-abbrev pub row_of : List ℕ → List ℕ → Row → Bool
-row_of bytes command row = bytes_eq (part bytes row.command) command
-
--- a place that has a row of this command
-abbrev pub place_of : List ℕ → List ℕ → Option Row → Bool
-place_of bytes command None = false
-place_of bytes command (Some row) = row_of bytes command row
-
--- the first place that has a row of this command
-abbrev pub first_of : List ℕ → List ℕ → List (Option Row) → Option ℕ
-first_of bytes command places = first_from (place_of bytes command) 0 places
-
--- the process that plays a row: the row's bytes wait, and it never replies
-abbrev pub pipe : List ℕ → Row → Pipe
-pipe bytes row = record { waiting = part bytes row.plays; ending = row.ending; allowance = row.allowance; snag = row.snag; reply = λ _ _. [] }
-
--- a started process plays what is left of its row, or is not open
-abbrev pub played : List ℕ → Option Row → Process
-played bytes None = gone
-played bytes (Some row) = live (pipe bytes row)
+use Rattle.scripts.specs.Rows.{pipe, played, first_of, places}
+use Rattle.host.specs.Worlds.{live, World, process}
 
 -- the first count places are the processes in the order of their starts; a command can be started exactly if an unused row has it
 abbrev pub script_world : List ℕ → List (Option Row) → List (Option Row) → ℕ → World
@@ -63,14 +14,6 @@ script_world bytes unused started count =
 
 abbrev pub world_of : Script → World
 world_of s = script_world s.bytes.now s.unused s.started s.count
-
--- a new script: nothing is started, and exactly the rows' commands can be
-abbrev pub opening : List ℕ → List Row → World
-opening bytes rows = record { procs = []; startable = λ command. is_some (first_from (row_of bytes command) 0 rows) }
-
--- rows in places of their own, the first first
-abbrev pub places : List Row → List (Option Row)
-places rows = map Some rows ++ replicate (16 - length rows) None
 
 -- a new script will play these rows over these bytes
 abbrev pub Holds : List ℕ → List Row → Result Script OutsideLimits → Type 0

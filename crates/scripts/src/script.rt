@@ -1,13 +1,16 @@
 //! A host that plays a script: each process plays a row, whose bytes are parts of one lent byte string.
 ghost use Rattle.std.specs.Prelude.{◌≡◌, ◌<◌, ◌≤◌, true, [], ◌∷◌, length, is_some, IfSome, if◌then◌else◌, None, Ok, Err};
+ghost use Rattle.std.specs.List.{list_all};
 ghost use Rattle.slices.specs.Answers.{told};
-ghost use Rattle.host.specs.Faults.{snag_fault};
+ghost use Rattle.slices.specs.Names.{name_number};
 ghost use Rattle.host.specs.Acts.{Started, Received, Sent, Ended, Grows, starting, taking, sending, ending, came};
-ghost use Rattle.scripts.specs.Scripts.{script_number, part, within, row_within, all, is_script, place_of, first_of, played, world_of, opening, places, Holds, Keeps, Plays};
 ghost use Rattle.host.specs.Worlds.{process, with_process};
+ghost use Rattle.scripts.specs.Rows.{part, within, row_within, is_script, place_of, first_of, played, opening, places};
 
 use host::fault::{Fault, NotStarted, Snag};
 use host::host::{Host, How};
+pub use slices::name::OutsideLimits;
+use std::array;
 
 /// The `len` bytes from `at` on.
 #[derive(Clone, Copy)]
@@ -35,11 +38,8 @@ pub struct Script<'a> {
     unused: [Option<Row>; 16],
     started: [Option<Row>; 16],
     count: usize,
+    ghost few: { count ≤ 16 },
 }
-
-/// The refusal of rows that are no script: more than 16, or one with a part outside the bytes.
-#[derive(Clone, Copy, Debug)]
-pub struct OutsideLimits;
 
 /// Whether a part lies within the first `n` bytes.
 fn is_within(p: Part, n: usize) -> bool
@@ -57,14 +57,9 @@ fn is_row_within(row: Row, n: usize) -> bool
 
 /// Whether each row lies within the first `n` bytes.
 fn are_within(rows: &[Row], n: usize) -> bool
-    ensures { result ≡ all (row_within n) rows.now }
+    ensures { result ≡ list_all (row_within n) rows.now }
 {
-    for row in rows {
-        if !is_row_within(*row, n) {
-            return false;
-        }
-    }
-    true
+    rows.iter().all(|row| is_row_within(*row, n))
 }
 
 /// The rows, each in a place of its own.
@@ -72,11 +67,7 @@ fn placed(rows: &[Row]) -> [Option<Row>; 16]
     requires { length rows.now ≤ 16 }
     ensures { result ≡ places rows.now }
 {
-    let mut places = [None; 16];
-    for (i, row) in rows.iter().enumerate() {
-        places[i] = Some(*row);
-    }
-    places
+    array::from_fn(|i| rows.get(i).copied())
 }
 
 /// The bytes of a part, as far as they are there.
@@ -92,10 +83,7 @@ fn bytes_of(bytes: &[u8], p: Part) -> &[u8]
 fn is_of(bytes: &[u8], place: Option<Row>, command: &[u8]) -> bool
     ensures { result ≡ place_of bytes.now command.now place }
 {
-    match place {
-        Some(row) => bytes_of(bytes, row.command) == command,
-        None => false,
-    }
+    place.is_some_and(|row| bytes_of(bytes, row.command) == command)
 }
 
 /// The first place that has a row of the command.
@@ -103,40 +91,25 @@ fn first_of(bytes: &[u8], places: &[Option<Row>], command: &[u8]) -> Option<usiz
     ensures value { result ≡ first_of bytes.now command.now places.now }
     ensures inside { IfSome result (λ i. i < length places.now) }
 {
-    for (i, place) in places.iter().enumerate() {
-        if is_of(bytes, *place, command) {
-            return Some(i);
-        }
-    }
-    None
-}
-
-/// What a send beyond the allowance answers.
-fn refusal(snag: Snag) -> Fault
-    ensures { result ≡ snag_fault snag }
-{
-    match snag {
-        Snag::Broken => Fault::Broken,
-        Snag::Other => Fault::Other,
-    }
+    places
+        .iter()
+        .position(|place| is_of(bytes, *place, command))
 }
 
 impl<'a> Script<'a> {
-    /// A script of these rows over `bytes`, with nothing started.
+    ghost use Rattle.scripts.specs.Scripts.{world_of, Holds, Keeps};
+
+    /// A script of these rows over `bytes`, with nothing started; more than 16 rows are none, nor are rows with a part outside the bytes.
     pub fn new(bytes: &'a [u8], rows: &[Row]) -> Result<Script<'a>, OutsideLimits>
-        ensures value { told world_of script_number result ≡ (if is_script bytes.now rows.now then Ok (opening bytes.now rows.now) else Err 2) }
+        ensures value { told world_of name_number result ≡ (if is_script bytes.now rows.now then Ok (opening bytes.now rows.now) else Err 2) }
         ensures rows { Holds bytes.now rows.now result }
     {
-        if rows.len() > 16 {
+        if rows.len() > 16 || !are_within(rows, bytes.len()) {
             return Err(OutsideLimits);
         }
-        if !are_within(rows, bytes.len()) {
-            return Err(OutsideLimits);
-        }
-        let unused = placed(rows);
         Ok(Script {
             bytes,
-            unused,
+            unused: placed(rows),
             started: [None; 16],
             count: 0,
         })
@@ -147,11 +120,7 @@ impl<'a> Script<'a> {
         ensures meaning { process (world_of self.now) number ≡ played self.now.bytes.now result }
         ensures inside { is_some result ≡ true → number < 16 }
     {
-        if number < self.count.min(16) {
-            self.started[number]
-        } else {
-            None
-        }
+        *self.started[..self.count].get(number)?
     }
 
     /// Lets a process play this from now on, or nothing any more.
@@ -165,6 +134,8 @@ impl<'a> Script<'a> {
 }
 
 impl Host for Script<'_> {
+    ghost use Rattle.scripts.specs.Scripts.{world_of, Keeps, Plays};
+
     ghost world = { world_of };
 
     ghost capacity = { 16 };
@@ -225,7 +196,7 @@ impl Host for Script<'_> {
         };
         let len = bytes.len();
         if len > row.allowance {
-            return Err(refusal(row.snag));
+            return Err(Fault::from(row.snag));
         }
         let allowance = row.allowance - len;
         self.play(process, Some(Row { allowance, ..row }));
@@ -237,7 +208,7 @@ impl Host for Script<'_> {
         ensures logs { Grows None (ending process _how ∷ []) None }
         ensures keeps { Keeps self.old self.new }
     {
-        if let Some(_) = self.playing(process) {
+        if self.playing(process).is_some() {
             self.play(process, None);
         }
     }

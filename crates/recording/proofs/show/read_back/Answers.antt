@@ -1,7 +1,6 @@
 use Rattle.std.proofs.Common.{◌<◌, [], ◌∷◌, ◌++◌, length, vec_items, sym, refl, ap, ◌∙◌, subst, arith}
-use Rattle.std.proofs.lemmas.List.{append-nil, nil_from_length}
 use Rattle.std.proofs.lemmas.Slice.{pushed}
-use Rattle.std.proofs.lemmas.Bool.{eqb-true, eqb-false}
+use Rattle.std.proofs.lemmas.Bool.{eqb-false}
 use Rattle.recording.specs.Shown.{shown, escaped, AllBytes}
 use Rattle.recording.proofs.Apart.{stuck, lead_is, read_more}
 use Rattle.recording.proofs.Hexadecimal.{all_push}
@@ -20,11 +19,4 @@ loop-rest-preserved c =
     let small : c.lead-b.result < 256 = omega arith in (
       read_more c.args.text.now (vec_items c.loop-rest.bytes) c.loop-rest.rest.now c.in-Some.tail.now c.lead-b.result c.loop-rest.invariant.0 c.in-Some.ensures ∙ ap (λ xs. escaped xs ++ c.in-Some.tail.now) (sym e),
       subst AllBytes (sym e) (all_push _ c.lead-b.result c.loop-rest.invariant.1 small),
-    )
-
-pub returns : goal.returns
-returns c =
-    let nil = nil_from_length c.loop-rest.rest.now (eqb-true _ 0 (sym c.loop-rest-test.ensures)) in (
-      c.loop-rest.invariant.0 ∙ ap (λ x. escaped (vec_items c.loop-rest.bytes) ++ x) nil ∙ append-nil (escaped (vec_items c.loop-rest.bytes)),
-      c.loop-rest.invariant.1,
     )

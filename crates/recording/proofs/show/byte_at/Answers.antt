@@ -1,6 +1,0 @@
-use Rattle.std.proofs.Common.{sym}
-use Rattle.std.proofs.lemmas.List.{get_or_past}
-use Rattle.recording.proofs.show.byte_at.Goals as goal
-
-pub returns-else-i-text : goal.returns-else-i-text
-returns-else-i-text c = sym (get_or_past c.args.text.now c.args.i 0 c.if-i-text.false)
