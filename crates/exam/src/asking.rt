@@ -4,16 +4,19 @@ use crate::lines::items;
 use crate::listing::{quote, shown};
 use crate::refusals::refused;
 use crate::sheet::ClientCall;
-use client::client::{Client, MAX_STATUS_LEN};
+use client::client::Client;
 use client::invoke::Meta;
-use client::listing;
+use client::listing::ListFault;
 use client::paths::PathRow;
 use client::result::Output;
+use host::call::CallError;
+use process::area::MAX_STATUS_LEN;
 use process::capabilities::Capabilities;
 use process::status::{Status, Word};
 use recording::show::{escape, read_back};
 use scripts::script::Script;
 use slices::name::Name;
+use slices::refusal::Numbered;
 use std::alloc::{AllocError, Global};
 use trace::traced::Traced;
 
@@ -224,7 +227,7 @@ fn list(
             let answer = format!(in heap; "{stored} {noun}, {said}")?;
             with_paths(heap, answer, stored, rows, text)
         }
-        Err(listing::Error::Full(listed)) => {
+        Err(CallError::Line(ListFault::Full(listed))) => {
             let named = listed.named;
             let stored = listed.stored;
             let said = told(heap, listed.status, status)?;
