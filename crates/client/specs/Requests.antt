@@ -1,5 +1,5 @@
 -- An exchange: a command in lines, its content in packets, and the status that the process answers.
-use Rattle.std.specs.Prelude.{◌≡◌, ℕ, cond, ◌&&◌, List, [], ◌∷◌, ◌++◌, map, length, Some, None, Ok, Err, codes, Option, Result, nat_le}
+use Rattle.std.specs.Prelude.{◌≡◌, ℕ, cond, ◌&&◌, List, [], ◌∷◌, ◌++◌, map, length, Some, None, Ok, codes, Option, Result, nat_le}
 use Rattle.packetline.specs.declared.encode.Error.{Error as Misuse}
 use Rattle.packetline.specs.declared.encode.Error.TheVariants.{AreaTooShort as Short, OutsideLimits}
 use Rattle.packetline.specs.Packets.{Pkt, flush, line, line_pkt, packets, all_sendable}

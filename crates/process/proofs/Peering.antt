@@ -5,7 +5,7 @@ use Rattle.host.specs.declared.peer.Peer.{Peer}
 use Rattle.host.specs.Worlds.{World}
 use Rattle.host.specs.Acts.{Log}
 use Rattle.host.specs.Peers.{seen, SameLent}
-use Rattle.host.specs.Talk.{Wire, Got, Sight, sight, areas}
+use Rattle.host.specs.Talk.{Wire, Got, sight, areas}
 use Rattle.process.specs.declared.area.StatusArea.{StatusArea}
 use Rattle.process.specs.Given.{Law, TalksBy, WorksBy}
 use Rattle.process.specs.Peers.{DoesBy, DoesWith}

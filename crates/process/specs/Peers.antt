@@ -1,5 +1,5 @@
 -- What a call on a peer does, with a law of what passed.
-use Rattle.std.specs.Prelude.{◌≡◌, ℕ, List, Result}
+use Rattle.std.specs.Prelude.{◌≡◌, Result}
 use Rattle.host.specs.declared.fault.LineFault.{LineFault}
 use Rattle.host.specs.declared.peer.Peer.{Peer}
 use Rattle.host.specs.Worlds.{World}

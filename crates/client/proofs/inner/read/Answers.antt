@@ -1,4 +1,4 @@
-use Rattle.std.proofs.Common.{◌≤◌, IfSome, Err, refl, ap, ◌∙◌, subst, rules}
+use Rattle.std.proofs.Common.{◌≤◌, IfSome, Err, refl, ap, ◌∙◌, subst}
 use Rattle.std.proofs.lemmas.Result.{err_from_is_err_and}
 use Rattle.host.proofs.Peering.{same_then}
 use Rattle.process.proofs.Peering.{later_with}

@@ -1,5 +1,5 @@
 use Rattle.std.proofs.Common.{arith}
-use Rattle.client.proofs.Keeps.{line_passed, line_stored, line_left}
+use Rattle.client.proofs.Keeps.{line_stored, line_left}
 use Rattle.client.proofs.paths.keep.Goals as goal
 
 pub returns-in-Some-next-clause-keeps : goal.returns-in-Some-next-clause-keeps

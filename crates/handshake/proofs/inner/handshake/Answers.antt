@@ -1,10 +1,9 @@
 use Rattle.std.proofs.Common.{Ok, Err, refl, ap, ◌∙◌, rules}
 use Rattle.std.proofs.lemmas.Result.{err_from_is_err_and}
-use Rattle.host.specs.Talk.{got}
 use Rattle.host.proofs.Peering.{does_then, does_stop, does_is, does_got}
 use Rattle.slices.specs.Names.{name_bytes}
 use Rattle.process.specs.declared.capabilities.Capabilities.{Capabilities}
-use Rattle.handshake.specs.Handshakes.{welcomed, chosen, ended, heard, shaken, shaken_by, names_of, asks, flush_then, version_then, welcome_then}
+use Rattle.handshake.specs.Handshakes.{welcomed, chosen, ended, heard, shaken, shaken_by}
 use Rattle.handshake.proofs.NamesLoop.{refused_then, right_then}
 use Rattle.handshake.proofs.Shakes.{handshake_does}
 use Rattle.handshake.proofs.inner.handshake.Goals as goal

@@ -1,7 +1,6 @@
-use Rattle.std.proofs.Common.{◌≤◌, IfSome, Err, ap, ◌∙◌, subst, arith, rules}
-use Rattle.std.proofs.lemmas.List.{take-append-drop}
+use Rattle.std.proofs.Common.{Err, ap, ◌∙◌}
 use Rattle.std.proofs.lemmas.Result.{err_from_is_err_and}
-use Rattle.host.proofs.Wants.{text_fault, text_none, text_bad, text_short, text_works}
+use Rattle.host.proofs.Wants.{text_fault, text_none, text_bad, text_works}
 use Rattle.host.proofs.peer.Peer.read_text.Goals as goal
 
 pub returns-in_err-n-clause-goes : goal.returns-in_err-n-clause-goes
