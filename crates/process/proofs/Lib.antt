@@ -7,3 +7,4 @@ pub mod StatusLoop
 pub mod Lines
 pub mod Masks
 pub mod Peering
+pub mod Spelt

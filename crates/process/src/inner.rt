@@ -3,7 +3,7 @@ ghost use Rattle.std.specs.Prelude.{◌≡◌, take};
 ghost use Rattle.packetline.specs.Packets.{over};
 ghost use Rattle.packetline.specs.Lines.{kind_of};
 ghost use Rattle.process.specs.Peers.{DoesWith};
-ghost use Rattle.process.specs.Statuses.{word_of, status_in, told_by, laid_by, read_status as status_read, StatusLaw};
+ghost use Rattle.process.specs.Statuses.{status_in, told_by, laid_by, read_status as status_read, StatusLaw};
 
 use crate::area::{MAX_STATUS_LEN, StatusArea};
 use crate::status::{Status, Word};
@@ -11,25 +11,6 @@ use host::fault::LineFault;
 use host::host::Host;
 use host::peer::Peer;
 use packetline::line::Line;
-
-/// What a status name means.
-fn word_of(name: &[u8]) -> Word
-    ensures { result ≡ word_of name.now }
-{
-    if name == b"success".as_slice() {
-        return Word::Success;
-    }
-    if name == b"delayed".as_slice() {
-        return Word::Delayed;
-    }
-    if name == b"abort".as_slice() {
-        return Word::Abort;
-    }
-    if name == b"error".as_slice() {
-        return Word::Error;
-    }
-    Word::Other
-}
 
 impl StatusArea<'_> {
     /// The first 128 bytes of a name over the front of the area.
@@ -50,7 +31,7 @@ fn note(told: Status, text: &[u8], status: &mut StatusArea<'_>) -> Status
 {
     if let Line::Status(name) = Line::read(text) {
         status.lay(name);
-        return Status::Named(word_of(name), name.len());
+        return Status::Named(Word::from(name), name.len());
     }
     told.as_first()
 }

@@ -1,6 +1,6 @@
 //! The status of a command.
 ghost use Rattle.std.specs.Prelude.{◌≡◌};
-ghost use Rattle.process.specs.Statuses.{first, succeeds};
+ghost use Rattle.process.specs.Statuses.{first, succeeds, word_of};
 
 /// What a status name means.
 #[derive(Clone, Copy)]
@@ -10,6 +10,20 @@ pub enum Word {
     Abort,
     Error,
     Other,
+}
+
+impl From<&[u8]> for Word {
+    ghost from_gives = { λ name word. word ≡ word_of name.now };
+
+    fn from(name: &[u8]) -> Word {
+        match name {
+            b"success" => Word::Success,
+            b"delayed" => Word::Delayed,
+            b"abort" => Word::Abort,
+            b"error" => Word::Error,
+            _ => Word::Other,
+        }
+    }
 }
 
 /// The status of a command: nothing new was said, lines without any status came, or a name with its whole length.
@@ -25,14 +39,7 @@ impl Status {
     pub fn is_success(self) -> bool
         ensures { result ≡ succeeds self }
     {
-        match self {
-            Status::Previous => true,
-            Status::Unset => false,
-            Status::Named(word, _) => match word {
-                Word::Success => true,
-                _ => false,
-            },
-        }
+        matches!(self, Status::Previous | Status::Named(Word::Success, _))
     }
 
     /// The status as the first of an exchange, or as that of a listing: there is none before it.
