@@ -1,5 +1,6 @@
 pub mod Fronts
 pub mod Digits
+pub mod Decimals
 pub mod Exact
 pub mod Framing
 pub mod Laying

@@ -4,7 +4,6 @@ ghost use Rattle.slices.specs.Answers.{told};
 ghost use Rattle.packetline.specs.declared.text.Error.TheVariants.{NotUtf8};
 ghost use Rattle.packetline.specs.Text.{IsText, number_of, text_number, text_of, utf8};
 
-use itoa::write_digits;
 use slices::refusal::Numbered;
 use std::str::Utf8Error;
 
@@ -58,5 +57,13 @@ pub fn decimal(n: u64, digits: &mut [u8; 20]) -> usize
     ensures len { length digits.new ≡ 20 }
     ensures law { number_of (decimal_of n) ≡ Some n }
 {
-    write_digits(n, digits, 20)
+    let mut at = 19;
+    let mut left = n;
+    while left >= 10 {
+        digits[at] = b'0' + (left % 10) as u8;
+        left /= 10;
+        at -= 1;
+    }
+    digits[at] = b'0' + left as u8;
+    at
 }

@@ -1,13 +1,23 @@
-use Rattle.std.proofs.Common.{arith}
-use Rattle.std.proofs.lemmas.Fmt.{decimal_nonempty, length-decimal-le}
+use Rattle.std.proofs.Common.{◌∙◌, arith, length-set}
+use Rattle.packetline.proofs.Decimals.{spelled_none, spelled_on, spelled_more, spelled_all}
 use Rattle.packetline.proofs.Numbers.{decimal_number}
 use Rattle.packetline.proofs.text.decimal.Goals as goal
 
-pub write_digits-requires : goal.write_digits-requires
-write_digits-requires c = (length-decimal-le 20 c.args.n (omega arith) (omega arith) (omega arith), omega arith)
+pub loop-left-init : goal.loop-left-init
+loop-left-init c = spelled_none c.args.n c.args.digits.now (omega arith) (omega arith)
 
-pub returns-clause-bound : goal.returns-clause-bound
-returns-clause-bound c = omega (arith, c.write_digits.ensures.start, decimal_nonempty c.args.n (omega arith))
+pub overflow_sub-at : goal.overflow_sub-at
+overflow_sub-at c = spelled_on _ _ _ _ c.loop-left.invariant (omega arith)
 
-pub returns-clause-law : goal.returns-clause-law
-returns-clause-law c = decimal_number c.args.n (omega arith)
+pub loop-left-preserved : goal.loop-left-preserved
+loop-left-preserved c = spelled_more _ _ _ _ c.loop-left.invariant (omega arith) _ (omega arith)
+
+pub returns : goal.returns
+returns c =
+    let s = c.loop-left.invariant in
+    record {
+      value = spelled_all _ _ _ _ s _ (omega arith) (omega arith);
+      bound = s.small;
+      len = length-set c.loop-left.digits c.loop-left.at _ ∙ s.long;
+      law = decimal_number c.args.n (omega arith);
+    }
