@@ -173,17 +173,16 @@ fn pass(
     started: &mut Vec<Started>,
     quiet: bool,
 ) -> anyhow::Result<()> {
-    if host.lost {
+    let Some(passed) = host.take() else {
         return Err(anyhow!("there is no memory for what passed"));
-    }
-    for note in host.passed.as_slice() {
+    };
+    for note in &passed {
         if let Some(process) = started.get_mut(note.process) {
             process
                 .listing
                 .add(rt, note.direction, note.bytes.as_slice(), quiet)?;
         }
     }
-    host.passed.clear();
     Ok(())
 }
 
@@ -268,12 +267,7 @@ fn print_open(rt: &HostRuntime, started: &[Started]) -> anyhow::Result<()> {
 fn stage_for<'a>(heap: Global, below: Script<'a>) -> Result<Stage<'a>, AllocError> {
     let work: Vec<u8> = vec![in heap; 0; 65_520]?;
     let status: Vec<u8> = vec![in heap; 0; 128]?;
-    let host = Traced {
-        below,
-        heap,
-        passed: Vec::new(heap),
-        lost: false,
-    };
+    let host = Traced::new(below, heap);
     Ok(Stage {
         host,
         work,
