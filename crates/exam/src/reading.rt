@@ -1,7 +1,7 @@
 //! A recording, line by line.
 use crate::listing::Listing;
-use anyhow::anyhow;
-use recording::line::{Entry, Error, parse};
+use anyhow::bail;
+use recording::line::{Direction, Entry, Error, parse};
 
 /// Why a line is bad, in words.
 fn reason(e: Error) -> &'static str {
@@ -14,18 +14,30 @@ fn reason(e: Error) -> &'static str {
     }
 }
 
+/// Adds a record, and prints the packets that it completes.
+fn add(
+    rt: &HostRuntime,
+    listing: &mut Listing,
+    direction: Direction,
+    bytes: &[u8],
+) -> anyhow::Result<()> {
+    let lines = listing.add(rt.alloc(), direction, bytes)?;
+    print!(rt; "{lines}")?;
+    Ok(())
+}
+
 /// Prints the packets that each line completes, and then what was counted. A bad line is told, and nothing from there on is read.
 pub(crate) fn list(rt: &HostRuntime, lines: &[&[u8]]) -> anyhow::Result<()> {
     let mut listing = Listing::new(rt.alloc());
     for (i, line) in lines.iter().enumerate() {
         match parse(rt.alloc(), line) {
             Ok(Entry::Nothing) => {}
-            Ok(Entry::Record(direction, bytes)) => listing.add(rt, direction, &bytes, false)?,
+            Ok(Entry::Record(direction, bytes)) => add(rt, &mut listing, direction, &bytes)?,
             Err(e) => {
                 let number = i.saturating_add(1);
                 let why = reason(e);
                 println!(rt; "line {number} is bad: {why}; nothing from there on is read")?;
-                return Err(anyhow!("a line of the recording is bad"));
+                bail!("a line of the recording is bad");
             }
         }
     }
