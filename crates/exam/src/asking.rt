@@ -1,9 +1,9 @@
 //! A client's calls over a script that is traced, and their answers in words.
-use crate::cast::versions;
 use crate::lines::items;
 use crate::listing::{quote, shown};
-use crate::refusals::refused;
-use crate::sheet::ClientCall;
+use crate::refusals::{Answer, Stopped, refused};
+use crate::sheet::{ClientCall, Pair};
+use crate::stage::Stage;
 use client::client::Client;
 use client::invoke::Meta;
 use client::listing::ListFault;
@@ -13,34 +13,10 @@ use host::call::CallError;
 use process::area::MAX_STATUS_LEN;
 use process::capabilities::Capabilities;
 use process::status::{Status, Word};
-use recording::show::{escape, read_back};
-use scripts::script::Script;
+use recording::show::escape;
 use slices::name::Name;
-use slices::refusal::Numbered;
 use std::alloc::{AllocError, Global};
-use trace::traced::Traced;
-
-/// A line of metadata that waits for the next exchange.
-#[derive(Drop)]
-pub(crate) struct Pair {
-    pub(crate) key: Vec<u8>,
-    pub(crate) value: Vec<u8>,
-}
-
-/// Bytes as they are shown. That they are shown so was judged before: only memory can be wanting.
-fn unescaped(heap: Global, text: &[u8]) -> Result<Vec<u8>, AllocError> {
-    match read_back(heap, text) {
-        Ok(bytes) => Ok(bytes),
-        Err(_) => Err(AllocError),
-    }
-}
-
-/// Metadata as it is written.
-pub(crate) fn read_pair(heap: Global, key: &[u8], value: &[u8]) -> Result<Pair, AllocError> {
-    let key = Vec::from_slice(heap, key)?;
-    let value = unescaped(heap, value)?;
-    Ok(Pair { key, value })
-}
+use std::mem::replace;
 
 /// A client of a process, whether hands were shaken with it or not.
 fn client_of(process: usize) -> Client {
@@ -51,38 +27,13 @@ fn client_of(process: usize) -> Client {
     }
 }
 
-/// A status, whose name lies at the front of the area.
-fn said(heap: Global, status: Status, area: &[u8]) -> Result<String, AllocError> {
-    match status {
-        Status::Previous => String::from_str(heap, "previous"),
-        Status::Unset => String::from_str(heap, "unset"),
-        Status::Named(Word::Success, _) => String::from_str(heap, "success"),
-        Status::Named(_, len) => {
-            quote(heap, &area[0..len.min(MAX_STATUS_LEN).min(area.len())], len)
-        }
-    }
-}
-
-/// A status, and whether it succeeds.
-fn told(heap: Global, status: Status, area: &[u8]) -> Result<String, AllocError> {
-    let text = said(heap, status, area)?;
-    if status.is_success() {
-        format!(in heap; "status {text}, succeeds")
-    } else {
-        format!(in heap; "status {text}, does not succeed")
-    }
-}
-
 /// The names that a process may name, if all are names.
-fn desired(heap: Global, list: &[u8]) -> Result<Option<Vec<Name>>, AllocError> {
+fn desired(heap: Global, list: &[u8]) -> Result<Vec<Name>, Stopped> {
     let mut names = Vec::new(heap);
-    for item in items(heap, list)?.as_slice() {
-        let Ok(name) = Name::new(item) else {
-            return Ok(None);
-        };
-        names.push(name)?;
+    for item in &items(heap, list)? {
+        names.push(Name::new(item).map_err(refused)?)?;
     }
-    Ok(Some(names))
+    Ok(names)
 }
 
 /// Those of the names that a process named.
@@ -101,173 +52,156 @@ fn named(heap: Global, capabilities: Capabilities, names: &[Name]) -> Result<Str
     Ok(text)
 }
 
-fn handshake(
-    heap: Global,
-    host: &mut Traced<Script<'_>>,
-    work: &mut [u8],
-    process: usize,
-    prefix: &[u8],
-    offered: &[u64],
-    names: &[u8],
-) -> Result<String, AllocError> {
-    let Some(names) = desired(heap, names)? else {
-        return refused(heap, 2);
-    };
-    let Ok(prefix) = Name::new(prefix) else {
-        return refused(heap, 2);
-    };
-    match Client::handshake(host, process, work, &prefix, offered, &names) {
-        Ok(client) => {
-            let version = client.version;
-            let names = named(heap, client.capabilities, &names)?;
-            format!(in heap; "version {version}, capabilities{names}")
-        }
-        Err(e) => refused(heap, e.refusal_number()),
-    }
-}
-
 /// The rows that an exchange sends.
 fn meta(heap: Global, pairs: &[Pair]) -> Result<Vec<Meta<'_>>, AllocError> {
-    let mut rows = Vec::new(heap);
-    for pair in pairs {
-        rows.push(Meta {
+    pairs
+        .iter()
+        .map(|pair| Meta {
             key: pair.key.as_slice(),
             value: pair.value.as_slice(),
-        })?;
-    }
-    Ok(rows)
+        })
+        .collect(heap)
 }
 
-fn invoke(
-    heap: Global,
-    host: &mut Traced<Script<'_>>,
-    work: &mut [u8],
-    status: &mut [u8],
-    process: usize,
-    command: &[u8],
-    pairs: &[Pair],
-    content: &[u8],
-) -> Result<String, AllocError> {
-    let meta = meta(heap, pairs)?;
-    let content = unescaped(heap, content)?;
-    match client_of(process).invoke(host, work, status, command, &meta, &content) {
-        Ok(answer) => told(heap, answer, status),
-        Err(e) => refused(heap, e.refusal_number()),
-    }
-}
-
-fn read_status(
-    heap: Global,
-    host: &mut Traced<Script<'_>>,
-    work: &mut [u8],
-    status: &mut [u8],
-    process: usize,
-) -> Result<String, AllocError> {
-    match client_of(process).read_status(host, work, status) {
-        Ok(answer) => told(heap, answer, status),
-        Err(e) => refused(heap, e.refusal_number()),
-    }
-}
-
-fn read_result(
-    heap: Global,
-    host: &mut Traced<Script<'_>>,
-    work: &mut [u8],
-    status: &mut [u8],
-    process: usize,
-) -> Result<String, AllocError> {
-    match client_of(process).read(host, work, status) {
-        Ok(Output::Payload(n)) => {
-            let text = shown(heap, &work[0..n.min(work.len())])?;
-            format!(in heap; "payload {text}")
+/// A status, whose name lies at the front of the area.
+fn said(heap: Global, status: Status, area: &[u8]) -> Result<String, AllocError> {
+    match status {
+        Status::Previous => String::from_str(heap, "previous"),
+        Status::Unset => String::from_str(heap, "unset"),
+        Status::Named(Word::Success, _) => String::from_str(heap, "success"),
+        Status::Named(_, len) => {
+            quote(heap, &area[0..len.min(MAX_STATUS_LEN).min(area.len())], len)
         }
-        Ok(Output::Final(answer)) => told(heap, answer, status),
-        Err(e) => refused(heap, e.refusal_number()),
     }
 }
 
 /// The path that a row places in a text area.
 fn path_at(text: &[u8], row: PathRow) -> &[u8] {
-    let at = row.at.min(text.len());
-    let len = row.len.min(text.len() - at);
-    &text[at..at + len]
+    text.get(row.at..row.at.saturating_add(row.len))
+        .unwrap_or(b"")
 }
 
-/// An answer, and under it the paths of the first rows.
-fn with_paths(
-    heap: Global,
-    answer: String,
-    stored: usize,
-    rows: &[PathRow],
-    text: &[u8],
-) -> Result<String, AllocError> {
-    let mut answer = answer;
-    for row in rows.iter().take(stored) {
-        let path = shown(heap, path_at(text, *row))?;
-        answer.push_str("\n    path ")?;
-        answer.push_str(path.as_str())?;
+impl Stage<'_> {
+    /// A status, whose name lies in the status area, and whether it succeeds.
+    fn told(&self, status: Status) -> Result<String, AllocError> {
+        let text = said(self.heap, status, &self.status)?;
+        let succeeds = if status.is_success() {
+            "succeeds"
+        } else {
+            "does not succeed"
+        };
+        format!(in self.heap; "status {text}, {succeeds}")
     }
-    Ok(answer)
-}
 
-fn list(
-    heap: Global,
-    host: &mut Traced<Script<'_>>,
-    work: &mut [u8],
-    status: &mut [u8],
-    process: usize,
-    rows: &mut [PathRow],
-    text: &mut [u8],
-) -> Result<String, AllocError> {
-    match client_of(process).list_available_blobs(host, work, status, rows, text) {
-        Ok(listed) => {
-            let stored = listed.stored;
-            let noun = if stored == 1 { "path" } else { "paths" };
-            let said = told(heap, listed.status, status)?;
-            let answer = format!(in heap; "{stored} {noun}, {said}")?;
-            with_paths(heap, answer, stored, rows, text)
-        }
-        Err(CallError::Line(ListFault::Full(listed))) => {
-            let named = listed.named;
-            let stored = listed.stored;
-            let said = told(heap, listed.status, status)?;
-            let answer = format!(in heap; "7, no space: {named} named, {stored} stored, {said}")?;
-            with_paths(heap, answer, stored, rows, text)
-        }
-        Err(e) => refused(heap, e.refusal_number()),
+    fn handshake(
+        &mut self,
+        process: usize,
+        prefix: &[u8],
+        versions: &[u64],
+        names: &[u8],
+    ) -> Answer {
+        let names = desired(self.heap, names)?;
+        let prefix = Name::new(prefix).map_err(refused)?;
+        let client = Client::handshake(
+            &mut self.host,
+            process,
+            &mut self.work,
+            &prefix,
+            versions,
+            &names,
+        )
+        .map_err(refused)?;
+        let version = client.version;
+        let names = named(self.heap, client.capabilities, &names)?;
+        Ok(format!(in self.heap; "version {version}, capabilities{names}")?)
     }
-}
 
-/// Makes a client's call with the metadata that waits, and tells its answer.
-pub(crate) fn ask(
-    heap: Global,
-    host: &mut Traced<Script<'_>>,
-    work: &mut [u8],
-    status: &mut [u8],
-    pairs: &[Pair],
-    process: usize,
-    call: ClientCall<'_>,
-) -> Result<String, AllocError> {
-    match call {
-        ClientCall::Handshake {
-            prefix,
-            versions: list,
-            names,
-        } => {
-            let Ok(offered) = versions(heap, list) else {
-                return Err(AllocError);
-            };
-            handshake(heap, host, work, process, prefix, &offered, names)
+    /// An exchange, with the metadata that waits.
+    fn invoke(&mut self, process: usize, command: &[u8], content: &[u8]) -> Answer {
+        let pairs = replace(&mut self.pairs, Vec::new(self.heap));
+        let meta = meta(self.heap, &pairs)?;
+        let status = client_of(process)
+            .invoke(
+                &mut self.host,
+                &mut self.work,
+                &mut self.status,
+                command,
+                &meta,
+                content,
+            )
+            .map_err(refused)?;
+        Ok(self.told(status)?)
+    }
+
+    fn read_status(&mut self, process: usize) -> Answer {
+        let status = client_of(process)
+            .read_status(&mut self.host, &mut self.work, &mut self.status)
+            .map_err(refused)?;
+        Ok(self.told(status)?)
+    }
+
+    fn read_result(&mut self, process: usize) -> Answer {
+        let output = client_of(process)
+            .read(&mut self.host, &mut self.work, &mut self.status)
+            .map_err(refused)?;
+        match output {
+            Output::Payload(n) => {
+                let text = shown(self.heap, &self.work[0..n.min(self.work.len())])?;
+                Ok(format!(in self.heap; "payload {text}")?)
+            }
+            Output::Final(status) => Ok(self.told(status)?),
         }
-        ClientCall::Invoke { command, content } => {
-            invoke(heap, host, work, status, process, command, pairs, content)
+    }
+
+    /// A listing, with a line for each path that is stored.
+    fn list(&mut self, process: usize, rows: usize, room: usize) -> Answer {
+        let mut rows: Vec<PathRow> = vec![in self.heap; PathRow { at: 0, len: 0 }; rows]?;
+        let mut text: Vec<u8> = vec![in self.heap; 0; room]?;
+        let outcome = client_of(process).list_available_blobs(
+            &mut self.host,
+            &mut self.work,
+            &mut self.status,
+            &mut rows,
+            &mut text,
+        );
+        let (mut answer, stored) = match outcome {
+            Ok(listed) => {
+                let stored = listed.stored;
+                let noun = if stored == 1 { "path" } else { "paths" };
+                let status = self.told(listed.status)?;
+                (format!(in self.heap; "{stored} {noun}, {status}")?, stored)
+            }
+            Err(CallError::Line(ListFault::Full(listed))) => {
+                let named = listed.named;
+                let stored = listed.stored;
+                let status = self.told(listed.status)?;
+                (
+                    format!(in self.heap; "7, no space: {named} named, {stored} stored, {status}")?,
+                    stored,
+                )
+            }
+            Err(e) => return Err(refused(e)),
+        };
+        for row in rows.iter().take(stored) {
+            let path = shown(self.heap, path_at(&text, *row))?;
+            answer.push_str("\n    path ")?;
+            answer.push_str(path.as_str())?;
         }
-        ClientCall::Status => read_status(heap, host, work, status, process),
-        ClientCall::Result => read_result(heap, host, work, status, process),
-        ClientCall::List { rows, room } => {
-            let mut rows: Vec<PathRow> = vec![in heap; PathRow { at: 0, len: 0 }; rows]?;
-            let mut text: Vec<u8> = vec![in heap; 0; room]?;
-            list(heap, host, work, status, process, &mut rows, &mut text)
+        Ok(answer)
+    }
+
+    /// Makes a client's call, and tells its answer.
+    pub(crate) fn ask(&mut self, process: usize, call: ClientCall<'_>) -> Answer {
+        match call {
+            ClientCall::Handshake {
+                prefix,
+                versions,
+                names,
+            } => self.handshake(process, prefix, &versions, names),
+            ClientCall::Invoke { command, content } => self.invoke(process, command, &content),
+            ClientCall::Status => self.read_status(process),
+            ClientCall::Result => self.read_result(process),
+            ClientCall::List { rows, room } => self.list(process, rows, room),
         }
     }
 }

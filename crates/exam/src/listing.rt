@@ -50,34 +50,6 @@ pub(crate) fn describe(heap: Global, line: PacketLineRef<'_>) -> Result<String, 
     }
 }
 
-/// One packet as a numbered line.
-fn print_packet(
-    rt: &HostRuntime,
-    number: usize,
-    sign: &str,
-    header: &[u8],
-    line: PacketLineRef<'_>,
-) -> anyhow::Result<()> {
-    let header = escape(rt.alloc(), header)?;
-    let text = describe(rt.alloc(), line)?;
-    println!(rt; "{number:>4} {sign} {header} {text}")?;
-    Ok(())
-}
-
-/// Four bytes that are no header, as a numbered line.
-fn print_bad(
-    rt: &HostRuntime,
-    number: usize,
-    sign: &str,
-    header: &[u8],
-    e: decode::Error,
-) -> anyhow::Result<()> {
-    let header = escape(rt.alloc(), header)?;
-    let refusal = e.refusal_number();
-    println!(rt; "{number:>4} {sign} {header} bad header, refusal {refusal}")?;
-    Ok(())
-}
-
 impl Flow {
     fn new(heap: Global) -> Flow {
         Flow {
@@ -87,36 +59,40 @@ impl Flow {
         }
     }
 
-    /// Reads each packet that is whole and was not read yet, prints it unless `quiet`, and answers the number of the last.
+    /// Reads each packet that is whole and was not read yet, adds its line, and answers the number of the last.
     fn advance(
         &mut self,
-        rt: &HostRuntime,
+        lines: &mut String,
+        heap: Global,
         sign: &str,
         last: usize,
-        quiet: bool,
-    ) -> anyhow::Result<usize> {
+    ) -> Result<usize, AllocError> {
         let mut number = last;
-        for _ in 0..self.bytes.len() {
-            if self.bad {
-                break;
-            }
+        if self.bad {
+            return Ok(number);
+        }
+        loop {
             let read = self.read;
             let unread = &self.bytes.as_slice()[read..];
             match streaming(unread) {
                 Ok(Some(whole)) => {
                     number = number.saturating_add(1);
-                    if !quiet {
-                        print_packet(rt, number, sign, &unread[0..4], whole.line)?;
-                    }
+                    let header = escape(heap, &unread[0..4])?;
+                    let text = describe(heap, whole.line)?;
+                    writeln!(lines, "{number:>4} {sign} {header} {text}")?;
                     self.read = read + whole.bytes_consumed;
                 }
                 Ok(None) => break,
                 Err(e) => {
                     number = number.saturating_add(1);
-                    if !quiet {
-                        print_bad(rt, number, sign, &unread[0..4], e)?;
-                    }
+                    let header = escape(heap, &unread[0..4])?;
+                    let refusal = e.refusal_number();
+                    writeln!(
+                        lines,
+                        "{number:>4} {sign} {header} bad header, refusal {refusal}"
+                    )?;
                     self.bad = true;
+                    break;
                 }
             }
         }
@@ -159,25 +135,25 @@ impl Listing {
         }
     }
 
-    /// Adds a record, and prints the packets that it completes unless `quiet`.
+    /// Adds a record, and answers a line for each packet that it completes.
     pub(crate) fn add(
         &mut self,
-        rt: &HostRuntime,
+        heap: Global,
         direction: Direction,
         bytes: &[u8],
-        quiet: bool,
-    ) -> anyhow::Result<()> {
+    ) -> Result<String, AllocError> {
+        let mut lines = String::new(heap);
         match direction {
             Direction::Sent => {
                 self.sent.bytes.extend_from_slice(bytes)?;
-                self.last = self.sent.advance(rt, ">", self.last, quiet)?;
+                self.last = self.sent.advance(&mut lines, heap, ">", self.last)?;
             }
             Direction::Given => {
                 self.given.bytes.extend_from_slice(bytes)?;
-                self.last = self.given.advance(rt, "<", self.last, quiet)?;
+                self.last = self.given.advance(&mut lines, heap, "<", self.last)?;
             }
         }
-        Ok(())
+        Ok(lines)
     }
 
     /// The flushes each way, and what is left over.

@@ -2,6 +2,7 @@
 #![tactic(auto)]
 
 mod asking;
+mod bad;
 mod cast;
 mod lines;
 mod listing;
@@ -9,6 +10,7 @@ mod playing;
 mod reading;
 mod refusals;
 mod sheet;
+mod stage;
 
 use lines::split_lines;
 use playing::play;
@@ -25,13 +27,11 @@ fn standard_input(rt: &HostRuntime) -> anyhow::Result<Vec<u8>> {
 
 /// Whether lines are those of a recording: the first that says anything begins with a direction's sign.
 fn is_recording(lines: &[&[u8]]) -> bool {
-    for line in lines {
-        match line.first() {
-            None | Some(b'#') => {}
-            Some(b) => return *b == b'>' || *b == b'<',
-        }
-    }
-    true
+    let first = lines
+        .iter()
+        .filter_map(|line| line.first())
+        .find(|b| **b != b'#');
+    first.is_none_or(|b| matches!(b, b'>' | b'<'))
 }
 
 /// Prints a recording, or plays a sheet.
@@ -52,13 +52,13 @@ fn show(rt: &HostRuntime, name: &String) -> anyhow::Result<()> {
 }
 
 fn run(rt: &HostRuntime) -> anyhow::Result<()> {
-    let mut given = false;
-    for name in env::args(rt)?.skip(1) {
-        given = true;
-        show(rt, &name)?;
-    }
-    if !given {
-        let name = String::from_str(rt.alloc(), "-")?;
+    let mut names = env::args(rt)?.skip(1);
+    let first = match names.next() {
+        Some(name) => name,
+        None => String::from_str(rt.alloc(), "-")?,
+    };
+    show(rt, &first)?;
+    for name in names {
         show(rt, &name)?;
     }
     Ok(())

@@ -1,222 +1,73 @@
 //! A sheet played over the script host.
-use crate::asking::{Pair, ask, read_pair};
-use crate::cast::{Cast, raw};
+use crate::cast::{Played, Sheet};
 use crate::listing::{Listing, describe};
-use crate::refusals::refused;
-use crate::sheet::{ClientCall, Entry, What, read_entry};
-use anyhow::anyhow;
+use crate::refusals::{Answer, Stopped, refused};
+use crate::sheet::{Call, PlainCall, What};
+use crate::stage::Stage;
+use anyhow::bail;
 use host::host::{Host, How};
 use host::reading::read;
 use host::sending::{send_flush, send_line};
-use recording::show::{escape, read_back};
+use recording::show::escape;
 use scripts::script::Script;
-use slices::refusal::Numbered;
-use std::alloc::{AllocError, Global};
-use trace::traced::Traced;
 
-/// A process that was started: whether it is open, and the packets that passed.
-#[derive(Drop)]
-struct Started {
-    open: bool,
-    listing: Listing,
-}
+impl Stage<'_> {
+    /// Starts a command, and notes that its process is open.
+    fn start(&mut self, command: &[u8]) -> Answer {
+        let number = self.host.start(command).map_err(refused)?;
+        self.started.push(Some(Listing::new(self.heap)))?;
+        Ok(format!(in self.heap; "process {number}")?)
+    }
 
-/// What a sheet is played on: the host, a work area and a status area, the metadata that waits for an exchange, and the processes that were started.
-#[derive(Drop)]
-struct Stage<'a> {
-    host: Traced<Script<'a>>,
-    work: Vec<u8>,
-    status: Vec<u8>,
-    pairs: Vec<Pair>,
-    started: Vec<Started>,
-}
-
-/// A refusal by its number, and what that means.
-fn print_refusal(rt: &HostRuntime, number: u8) -> anyhow::Result<()> {
-    let text = refused(rt.alloc(), number)?;
-    println!(rt; "  = {text}")?;
-    Ok(())
-}
-
-/// Sends what a line says: a line or a flush as a packet, anything else as bytes.
-fn send(
-    rt: &HostRuntime,
-    host: &mut Traced<Script<'_>>,
-    area: &mut [u8],
-    process: usize,
-    what: What<'_>,
-) -> anyhow::Result<()> {
-    let refusal = match what {
-        What::Data(text) => {
-            let Ok(payload) = read_back(rt.alloc(), text) else {
-                return Ok(());
-            };
-            match send_line(host, process, area, &payload) {
-                Ok(_) => None,
-                Err(e) => Some(e.refusal_number()),
+    /// Sends a line or a flush as a packet, anything else as bytes.
+    fn send(&mut self, process: usize, what: &What) -> Answer {
+        match what {
+            What::Data(payload) => {
+                send_line(&mut self.host, process, &mut self.work, payload).map_err(refused)?
             }
+            What::Flush => { send_flush(&mut self.host, process, &mut self.work).map_err(refused)? }
+            What::Bytes(bytes) => self.host.send(process, bytes).map_err(refused)?,
         }
-        What::Flush => match send_flush(host, process, area) {
-            Ok(_) => None,
-            Err(e) => Some(e.refusal_number()),
-        },
-        _ => {
-            let Ok(bytes) = raw(rt.alloc(), what) else {
-                return Ok(());
-            };
-            match host.send(process, &bytes) {
-                Ok(_) => None,
-                Err(e) => Some(e.refusal_number()),
-            }
-        }
-    };
-    match refusal {
-        None => println!(rt; "  = taken")?,
-        Some(number) => print_refusal(rt, number)?,
+        Ok(String::from_str(self.heap, "taken")?)
     }
-    Ok(())
-}
 
-/// Reads one packet.
-fn read_one(
-    rt: &HostRuntime,
-    host: &mut Traced<Script<'_>>,
-    area: &mut [u8],
-    process: usize,
-) -> anyhow::Result<()> {
-    match read(host, process, area) {
-        Ok(packet) => {
-            let text = describe(rt.alloc(), packet.with_payload(area))?;
-            println!(rt; "  = {text}")?;
-            Ok(())
-        }
-        Err(e) => print_refusal(rt, e.refusal_number()),
+    /// Reads one packet.
+    fn read(&mut self, process: usize) -> Answer {
+        let packet = read(&mut self.host, process, &mut self.work).map_err(refused)?;
+        Ok(describe(self.heap, packet.with_payload(&self.work))?)
     }
-}
 
-/// Receives at most `most` bytes.
-fn receive(
-    rt: &HostRuntime,
-    host: &mut Traced<Script<'_>>,
-    area: &mut [u8],
-    process: usize,
-    most: usize,
-) -> anyhow::Result<()> {
-    let most = most.min(area.len());
-    match host.receive(process, &mut area[0..most]) {
-        Ok(n) => {
-            let text = escape(rt.alloc(), &area[0..n.min(area.len())])?;
-            println!(rt; "  = bytes \"{text}\"")?;
-            Ok(())
-        }
-        Err(e) => print_refusal(rt, e.refusal_number()),
+    /// Receives at most `most` bytes.
+    fn receive(&mut self, process: usize, most: usize) -> Answer {
+        let most = most.min(self.work.len());
+        let n = self
+            .host
+            .receive(process, &mut self.work[0..most])
+            .map_err(refused)?;
+        let text = escape(self.heap, &self.work[0..n.min(self.work.len())])?;
+        Ok(format!(in self.heap; "bytes \"{text}\"")?)
     }
-}
 
-/// Starts a command, and notes that its process is open.
-fn start(
-    rt: &HostRuntime,
-    host: &mut Traced<Script<'_>>,
-    started: &mut Vec<Started>,
-    command: &[u8],
-) -> anyhow::Result<()> {
-    match host.start(command) {
-        Ok(number) => {
-            let listing = Listing::new(rt.alloc());
-            started.push(Started {
-                open: true,
-                listing,
-            })?;
-            println!(rt; "  = process {number}")?;
-            Ok(())
-        }
-        Err(e) => print_refusal(rt, e.refusal_number()),
+    /// Ends a process, and notes that.
+    fn end(&mut self, process: usize, how: How) -> Answer {
+        self.host.end(process, how);
+        let was_open = match self.started.get_mut(process) {
+            Some(listing) => listing.take().is_some(),
+            None => false,
+        };
+        let text = if was_open { "ended" } else { "was not open" };
+        Ok(String::from_str(self.heap, text)?)
     }
-}
 
-/// Ends a process, and notes that.
-fn end(
-    rt: &HostRuntime,
-    host: &mut Traced<Script<'_>>,
-    started: &mut Vec<Started>,
-    process: usize,
-    how: How,
-) -> anyhow::Result<()> {
-    host.end(process, how);
-    let mut was_open = false;
-    if let Some(ended) = started.get_mut(process) {
-        was_open = ended.open;
-        ended.open = false;
-    }
-    if was_open {
-        println!(rt; "  = ended")?;
-    } else {
-        println!(rt; "  = was not open")?;
-    }
-    Ok(())
-}
-
-/// Adds what passed to the packets of its process, and prints those that it completes unless `quiet`.
-fn pass(
-    rt: &HostRuntime,
-    host: &mut Traced<Script<'_>>,
-    started: &mut Vec<Started>,
-    quiet: bool,
-) -> anyhow::Result<()> {
-    if host.lost {
-        return Err(anyhow!("there is no memory for what passed"));
-    }
-    for note in host.passed.as_slice() {
-        if let Some(process) = started.get_mut(note.process) {
-            process
-                .listing
-                .add(rt, note.direction, note.bytes.as_slice(), quiet)?;
+    /// Makes a call on the host itself.
+    fn make(&mut self, call: PlainCall<'_>) -> Answer {
+        match call {
+            PlainCall::Start(command) => self.start(command),
+            PlainCall::Send(process, what) => self.send(process, &what),
+            PlainCall::Read(process) => self.read(process),
+            PlainCall::Receive(process, most) => self.receive(process, most),
+            PlainCall::End(process, how) => self.end(process, how),
         }
-    }
-    host.passed.clear();
-    Ok(())
-}
-
-/// Makes a client's call, and prints the packets that passed and its answer.
-fn ask_client(
-    rt: &HostRuntime,
-    stage: &mut Stage<'_>,
-    process: usize,
-    call: ClientCall<'_>,
-) -> anyhow::Result<()> {
-    let answer = ask(
-        rt.alloc(),
-        &mut stage.host,
-        &mut stage.work,
-        &mut stage.status,
-        stage.pairs.as_slice(),
-        process,
-        call,
-    )?;
-    if call.is_exchange() {
-        stage.pairs.clear();
-    }
-    pass(rt, &mut stage.host, &mut stage.started, false)?;
-    println!(rt; "  = {answer}")?;
-    Ok(())
-}
-
-/// Makes one call, and prints its answer.
-fn make(rt: &HostRuntime, stage: &mut Stage<'_>, entry: Entry<'_>) -> anyhow::Result<()> {
-    match entry {
-        Entry::Start(command) => start(rt, &mut stage.host, &mut stage.started, command),
-        Entry::Send(process, what) => send(rt, &mut stage.host, &mut stage.work, process, what),
-        Entry::Read(process) => read_one(rt, &mut stage.host, &mut stage.work, process),
-        Entry::Receive(process, most) => {
-            receive(rt, &mut stage.host, &mut stage.work, process, most)
-        }
-        Entry::End(process, how) => end(rt, &mut stage.host, &mut stage.started, process, how),
-        Entry::With(key, value) => {
-            stage.pairs.push(read_pair(rt.alloc(), key, value)?)?;
-            Ok(())
-        }
-        Entry::Call(process, call) => ask_client(rt, stage, process, call),
-        _ => Ok(()),
     }
 }
 
@@ -229,67 +80,68 @@ fn print_line(rt: &HostRuntime, line: &[u8]) -> anyhow::Result<()> {
     Ok(())
 }
 
-/// Plays one line of a sheet.
-fn play_line(rt: &HostRuntime, stage: &mut Stage<'_>, line: &[u8]) -> anyhow::Result<()> {
-    let Some(entry) = read_entry(line) else {
-        return Ok(());
-    };
-    if !entry.is_played() {
-        return Ok(());
-    }
-    print_line(rt, line)?;
-    make(rt, stage, entry)?;
-    pass(rt, &mut stage.host, &mut stage.started, true)
-}
-
-/// Which processes are open at the end.
-fn print_open(rt: &HostRuntime, started: &[Started]) -> anyhow::Result<()> {
-    for (number, process) in started.iter().enumerate() {
-        if process.open {
-            println!(rt; "process {number} is open")?;
-        } else {
-            println!(rt; "process {number} is not open")?;
-        }
+/// Prints what a call answered, or its refusal.
+fn print_answer(rt: &HostRuntime, answer: Answer) -> anyhow::Result<()> {
+    match answer {
+        Ok(text) => println!(rt; "  = {text}")?,
+        Err(Stopped::Refused(refusal)) => println!(rt; "  = {refusal}")?,
+        Err(Stopped::Failed(e)) => return Err(e),
     }
     Ok(())
 }
 
-/// The stage for a script, with nothing started.
-fn stage_for<'a>(heap: Global, below: Script<'a>) -> Result<Stage<'a>, AllocError> {
-    let work: Vec<u8> = vec![in heap; 0; 65_520]?;
-    let status: Vec<u8> = vec![in heap; 0; 128]?;
-    let host = Traced {
-        below,
-        heap,
-        passed: Vec::new(heap),
-        lost: false,
-    };
-    Ok(Stage {
-        host,
-        work,
-        status,
-        pairs: Vec::new(heap),
-        started: Vec::new(heap),
-    })
-}
-
-/// Reads the processes of a sheet, then makes its calls in order. A bad line is told before anything is played.
-pub(crate) fn play(rt: &HostRuntime, lines: &[&[u8]]) -> anyhow::Result<()> {
-    let mut cast = Cast::new(rt.alloc());
-    for (i, line) in lines.iter().enumerate() {
-        if let Err(bad) = cast.add(rt.alloc(), line) {
-            let number = i.saturating_add(1);
-            let reason = bad.reason();
-            println!(rt; "line {number} is bad: {reason}; nothing is played")?;
-            return Err(anyhow!("a line of the sheet is bad"));
+/// Plays one line of a sheet: under a client's call stand the packets that passed, and under any call its answer.
+fn play_line(rt: &HostRuntime, stage: &mut Stage<'_>, played: Played<'_>) -> anyhow::Result<()> {
+    print_line(rt, played.line)?;
+    match played.call {
+        Call::With(pair) => {
+            stage.pairs.push(pair)?;
+            Ok(())
+        }
+        Call::Plain(call) => {
+            let answer = stage.make(call);
+            let _counted = stage.pass()?;
+            print_answer(rt, answer)
+        }
+        Call::Client(process, call) => {
+            let answer = stage.ask(process, call);
+            let lines = stage.pass()?;
+            print!(rt; "{lines}")?;
+            print_answer(rt, answer)
         }
     }
-    let Ok(script) = Script::new(cast.bytes.as_slice(), cast.rows.as_slice()) else {
-        return Err(anyhow!("a sheet has at most 16 processes"));
+}
+
+/// Which processes are open at the end.
+fn print_open(rt: &HostRuntime, started: &[Option<Listing>]) -> anyhow::Result<()> {
+    for (number, process) in started.iter().enumerate() {
+        let state = if process.is_some() {
+            "open"
+        } else {
+            "not open"
+        };
+        println!(rt; "process {number} is {state}")?;
+    }
+    Ok(())
+}
+
+/// Reads a sheet, then plays it. A bad line is told before anything is played.
+pub(crate) fn play(rt: &HostRuntime, lines: &[&[u8]]) -> anyhow::Result<()> {
+    let mut sheet = Sheet::new(rt.alloc());
+    for (i, line) in lines.iter().enumerate() {
+        if let Err(bad) = sheet.add(rt.alloc(), line) {
+            let number = i.saturating_add(1);
+            println!(rt; "line {number} is bad: {bad}; nothing is played")?;
+            bail!("a line of the sheet is bad");
+        }
+    }
+    let Sheet { cast, played } = sheet;
+    let Ok(script) = Script::new(&cast.bytes, &cast.rows) else {
+        bail!("a sheet has at most 16 processes");
     };
-    let mut stage = stage_for(rt.alloc(), script)?;
-    for line in lines {
+    let mut stage = Stage::new(rt.alloc(), script)?;
+    for line in played {
         play_line(rt, &mut stage, line)?;
     }
-    print_open(rt, stage.started.as_slice())
+    print_open(rt, &stage.started)
 }

@@ -1,33 +1,56 @@
 //! The lines of a sheet: processes, what they give, and calls.
+use crate::bad::Bad;
+use crate::lines::items;
 use host::fault::{Fault, Snag};
 use host::host::How;
+use packetline::encode::MAX_DATA_LEN;
 use packetline::text::number;
+use recording::line::hex_bytes;
+use recording::show::read_back;
+use std::alloc::Global;
 
-/// What is given or sent, as it is written.
-#[derive(Clone, Copy)]
-pub(crate) enum What<'a> {
-    /// A payload as it is shown between quotation marks.
-    Data(&'a [u8]),
+/// The most rows, and the most bytes of room, that a listing of a sheet has.
+const MAX_LIST: usize = 65_536;
+
+/// What is given or sent.
+#[derive(Drop)]
+pub(crate) enum What {
+    /// The payload of a packet.
+    Data(Vec<u8>),
     Flush,
-    Delimiter,
-    ResponseEnd,
-    /// Bytes in hexadecimal digits.
-    Bytes(&'a [u8]),
+    /// Bytes that are framed by nobody.
+    Bytes(Vec<u8>),
 }
 
-/// A client's call on a process, as it is written.
-#[derive(Clone, Copy)]
+/// A line of metadata.
+#[derive(Drop)]
+pub(crate) struct Pair {
+    pub(crate) key: Vec<u8>,
+    pub(crate) value: Vec<u8>,
+}
+
+/// A call on the host itself.
+#[derive(Drop)]
+pub(crate) enum PlainCall<'a> {
+    Start(&'a [u8]),
+    Send(usize, What),
+    Read(usize),
+    Receive(usize, usize),
+    End(usize, How),
+}
+
+/// A client's call on a process.
+#[derive(Drop)]
 pub(crate) enum ClientCall<'a> {
-    /// Versions and names are lists parted by commas.
+    /// The names are a list parted by commas.
     Handshake {
         prefix: &'a [u8],
-        versions: &'a [u8],
+        versions: Vec<u64>,
         names: &'a [u8],
     },
-    /// The content is shown between quotation marks.
     Invoke {
         command: &'a [u8],
-        content: &'a [u8],
+        content: Vec<u8>,
     },
     Status,
     Result,
@@ -37,21 +60,17 @@ pub(crate) enum ClientCall<'a> {
     },
 }
 
-impl ClientCall<'_> {
-    /// Whether a call sends metadata.
-    pub(crate) fn is_exchange(self) -> bool {
-        match self {
-            ClientCall::Invoke {
-                command: _,
-                content: _,
-            } => true,
-            _ => false,
-        }
-    }
+/// What is played of a sheet.
+#[derive(Drop)]
+pub(crate) enum Call<'a> {
+    Plain(PlainCall<'a>),
+    /// Metadata for the next exchange.
+    With(Pair),
+    Client(usize, ClientCall<'a>),
 }
 
 /// A line of a sheet.
-#[derive(Clone, Copy)]
+#[derive(Drop)]
 pub(crate) enum Entry<'a> {
     Nothing,
     Process {
@@ -60,107 +79,105 @@ pub(crate) enum Entry<'a> {
         allowance: usize,
         snag: Snag,
     },
-    Gives(What<'a>),
-    Start(&'a [u8]),
-    Send(usize, What<'a>),
-    Read(usize),
-    Receive(usize, usize),
-    End(usize, How),
-    /// A key, and a value as it is shown between quotation marks.
-    With(&'a [u8], &'a [u8]),
-    Call(usize, ClientCall<'a>),
-}
-
-impl Entry<'_> {
-    /// Whether a line is played, and not only read before.
-    pub(crate) fn is_played(self) -> bool {
-        match self {
-            Entry::Nothing
-            | Entry::Process {
-                command: _,
-                ending: _,
-                allowance: _,
-                snag: _,
-            }
-            | Entry::Gives(_) => false,
-            _ => true,
-        }
-    }
+    Gives(What),
+    Call(Call<'a>),
 }
 
 /// The part before the first blank, and the part behind it.
 fn first_word(line: &[u8]) -> (&[u8], &[u8]) {
-    for (i, b) in line.iter().enumerate() {
-        if *b == b' ' {
-            return (&line[0..i], &line[i + 1..]);
-        }
-    }
-    (line, b"")
+    let mut parts = line.splitn(2, |b| *b == b' ');
+    (parts.next().unwrap_or(b""), parts.next().unwrap_or(b""))
 }
 
 /// A number that is a whole line.
-fn whole_number(line: &[u8]) -> Option<usize> {
-    match number(line) {
-        Some(n) => Some(n as usize),
-        None => None,
-    }
+fn whole_number(line: &[u8]) -> Result<usize, Bad> {
+    number(line).map(|n| n as usize).ok_or(Bad::Words)
 }
 
-fn ending(word: &[u8]) -> Option<Fault> {
-    match word {
-        b"closed" => Some(Fault::Closed),
-        b"broken" => Some(Fault::Broken),
-        b"other" => Some(Fault::Other),
-        _ => None,
-    }
+/// A number that is the first word, and the part behind it.
+fn first_number(line: &[u8]) -> Result<(usize, &[u8]), Bad> {
+    let (word, rest) = first_word(line);
+    Ok((whole_number(word)?, rest))
 }
 
-fn snag(word: &[u8]) -> Option<Snag> {
-    match word {
-        b"broken" => Some(Snag::Broken),
-        b"other" => Some(Snag::Other),
-        _ => None,
-    }
-}
-
-/// The part between a quotation mark at the front and one at the end.
-fn quoted(text: &[u8]) -> Option<&[u8]> {
-    let text = text.strip_prefix(b"\"")?;
-    text.strip_suffix(b"\"")
-}
-
-fn read_what(text: &[u8]) -> Option<What<'_>> {
+/// A first word that is not empty, and the part behind it.
+fn some_word(text: &[u8]) -> Result<(&[u8], &[u8]), Bad> {
     let (word, rest) = first_word(text);
-    match word {
-        b"flush" if rest.is_empty() => Some(What::Flush),
-        b"delimiter" if rest.is_empty() => Some(What::Delimiter),
-        b"response-end" if rest.is_empty() => Some(What::ResponseEnd),
-        b"data" => Some(What::Data(quoted(rest)?)),
-        b"bytes" => Some(What::Bytes(rest)),
-        _ => None,
+    if word.is_empty() {
+        return Err(Bad::Words);
     }
+    Ok((word, rest))
 }
 
 /// A text that is one word.
-fn one_word(text: &[u8]) -> Option<&[u8]> {
-    let (word, rest) = first_word(text);
-    if word.is_empty() || !rest.is_empty() {
-        return None;
+fn one_word(text: &[u8]) -> Result<&[u8], Bad> {
+    let (word, rest) = some_word(text)?;
+    if !rest.is_empty() {
+        return Err(Bad::Words);
     }
-    Some(word)
+    Ok(word)
 }
 
-fn process(text: &[u8]) -> Option<Entry<'_>> {
-    let (command, text) = first_word(text);
-    if command.is_empty() {
-        return None;
+/// The bytes that are shown between a quotation mark at the front and one at the end.
+fn quoted(heap: Global, text: &[u8]) -> Result<Vec<u8>, Bad> {
+    let text = text.strip_prefix(b"\"").ok_or(Bad::Words)?;
+    let text = text.strip_suffix(b"\"").ok_or(Bad::Words)?;
+    Ok(read_back(heap, text)?)
+}
+
+/// The payload of a packet, between quotation marks.
+fn payload(heap: Global, text: &[u8]) -> Result<Vec<u8>, Bad> {
+    let payload = quoted(heap, text)?;
+    if payload.is_empty() || payload.len() > MAX_DATA_LEN {
+        return Err(Bad::OutsideLimits);
     }
+    Ok(payload)
+}
+
+/// The versions that a handshake offers.
+fn read_versions(heap: Global, list: &[u8]) -> Result<Vec<u64>, Bad> {
+    items(heap, list)?
+        .iter()
+        .map(|item| number(item).ok_or(Bad::NoVersions))
+        .try_collect(heap)
+}
+
+fn ending(word: &[u8]) -> Result<Fault, Bad> {
+    match word {
+        b"closed" => Ok(Fault::Closed),
+        b"broken" => Ok(Fault::Broken),
+        b"other" => Ok(Fault::Other),
+        _ => Err(Bad::Words),
+    }
+}
+
+fn snag(word: &[u8]) -> Result<Snag, Bad> {
+    match word {
+        b"broken" => Ok(Snag::Broken),
+        b"other" => Ok(Snag::Other),
+        _ => Err(Bad::Words),
+    }
+}
+
+fn read_what(heap: Global, text: &[u8]) -> Result<What, Bad> {
+    let (word, rest) = first_word(text);
+    match word {
+        b"flush" if rest.is_empty() => Ok(What::Flush),
+        b"delimiter" if rest.is_empty() => Ok(What::Bytes(Vec::from_slice(heap, b"0001")?)),
+        b"response-end" if rest.is_empty() => Ok(What::Bytes(Vec::from_slice(heap, b"0002")?)),
+        b"data" => Ok(What::Data(payload(heap, rest)?)),
+        b"bytes" => Ok(What::Bytes(hex_bytes(heap, rest)?)),
+        _ => Err(Bad::Words),
+    }
+}
+
+fn process(text: &[u8]) -> Result<Entry<'_>, Bad> {
+    let (command, text) = some_word(text)?;
     let (word, text) = first_word(text);
     let ending = ending(word)?;
-    let (word, text) = first_word(text);
-    let allowance = whole_number(word)?;
+    let (allowance, text) = first_number(text)?;
     let snag = snag(text)?;
-    Some(Entry::Process {
+    Ok(Entry::Process {
         command,
         ending,
         allowance,
@@ -168,25 +185,30 @@ fn process(text: &[u8]) -> Option<Entry<'_>> {
     })
 }
 
-fn sending(text: &[u8]) -> Option<Entry<'_>> {
-    let (word, rest) = first_word(text);
-    let process = whole_number(word)?;
-    Some(Entry::Send(process, read_what(rest)?))
+fn sending(heap: Global, text: &[u8]) -> Result<PlainCall<'_>, Bad> {
+    let (process, rest) = first_number(text)?;
+    Ok(PlainCall::Send(process, read_what(heap, rest)?))
 }
 
-fn receiving(text: &[u8]) -> Option<Entry<'_>> {
-    let (word, rest) = first_word(text);
-    let process = whole_number(word)?;
-    Some(Entry::Receive(process, whole_number(rest)?))
+fn receiving(text: &[u8]) -> Result<PlainCall<'_>, Bad> {
+    let (process, rest) = first_number(text)?;
+    Ok(PlainCall::Receive(process, whole_number(rest)?))
 }
 
-fn handshake(text: &[u8]) -> Option<Entry<'_>> {
-    let (word, text) = first_word(text);
-    let process = whole_number(word)?;
+fn with(heap: Global, text: &[u8]) -> Result<Pair, Bad> {
+    let (key, rest) = some_word(text)?;
+    let value = quoted(heap, rest)?;
+    let key = Vec::from_slice(heap, key)?;
+    Ok(Pair { key, value })
+}
+
+fn handshake(heap: Global, text: &[u8]) -> Result<Call<'_>, Bad> {
+    let (process, text) = first_number(text)?;
     let (prefix, text) = first_word(text);
     let (versions, text) = first_word(text);
     let names = one_word(text)?;
-    Some(Entry::Call(
+    let versions = read_versions(heap, versions)?;
+    Ok(Call::Client(
         process,
         ClientCall::Handshake {
             prefix,
@@ -196,60 +218,51 @@ fn handshake(text: &[u8]) -> Option<Entry<'_>> {
     ))
 }
 
-/// A word, and a text between quotation marks.
-fn word_and_quoted(text: &[u8]) -> Option<(&[u8], &[u8])> {
-    let (word, rest) = first_word(text);
-    if word.is_empty() {
-        return None;
-    }
-    Some((word, quoted(rest)?))
+fn invoking(heap: Global, text: &[u8]) -> Result<Call<'_>, Bad> {
+    let (process, text) = first_number(text)?;
+    let (command, text) = some_word(text)?;
+    let content = quoted(heap, text)?;
+    Ok(Call::Client(process, ClientCall::Invoke { command, content }))
 }
 
-fn invoking(text: &[u8]) -> Option<Entry<'_>> {
-    let (word, text) = first_word(text);
-    let process = whole_number(word)?;
-    let (command, content) = word_and_quoted(text)?;
-    Some(Entry::Call(process, ClientCall::Invoke { command, content }))
-}
-
-fn listing(text: &[u8]) -> Option<Entry<'_>> {
-    let (word, text) = first_word(text);
-    let process = whole_number(word)?;
-    let (word, text) = first_word(text);
-    let rows = whole_number(word)?;
+fn listing(text: &[u8]) -> Result<Call<'_>, Bad> {
+    let (process, text) = first_number(text)?;
+    let (rows, text) = first_number(text)?;
     let room = whole_number(text)?;
-    Some(Entry::Call(process, ClientCall::List { rows, room }))
+    if rows > MAX_LIST || room > MAX_LIST {
+        return Err(Bad::ListTooLarge);
+    }
+    Ok(Call::Client(process, ClientCall::List { rows, room }))
 }
 
-fn with(text: &[u8]) -> Option<Entry<'_>> {
-    let (key, value) = word_and_quoted(text)?;
-    Some(Entry::With(key, value))
+/// A call, by its first word and the part behind it.
+fn read_call<'a>(heap: Global, word: &[u8], rest: &'a [u8]) -> Result<Call<'a>, Bad> {
+    match word {
+        b"start" => Ok(Call::Plain(PlainCall::Start(one_word(rest)?))),
+        b"send" => Ok(Call::Plain(sending(heap, rest)?)),
+        b"read" => Ok(Call::Plain(PlainCall::Read(whole_number(rest)?))),
+        b"receive" => Ok(Call::Plain(receiving(rest)?)),
+        b"close" => Ok(Call::Plain(PlainCall::End(whole_number(rest)?, How::Close))),
+        b"kill" => Ok(Call::Plain(PlainCall::End(whole_number(rest)?, How::Kill))),
+        b"handshake" => handshake(heap, rest),
+        b"with" => Ok(Call::With(with(heap, rest)?)),
+        b"invoke" => invoking(heap, rest),
+        b"status" => Ok(Call::Client(whole_number(rest)?, ClientCall::Status)),
+        b"result" => Ok(Call::Client(whole_number(rest)?, ClientCall::Result)),
+        b"list" => listing(rest),
+        _ => Err(Bad::Words),
+    }
 }
 
-/// What a line of a sheet says, if it says anything that a sheet can say.
-pub(crate) fn read_entry(line: &[u8]) -> Option<Entry<'_>> {
+/// What a line of a sheet says.
+pub(crate) fn read_entry(heap: Global, line: &[u8]) -> Result<Entry<'_>, Bad> {
+    if matches!(line.first(), None | Some(b'#')) {
+        return Ok(Entry::Nothing);
+    }
     let (word, rest) = first_word(line);
     match word {
         b"process" => process(rest),
-        b"gives" => Some(Entry::Gives(read_what(rest)?)),
-        b"start" => Some(Entry::Start(one_word(rest)?)),
-        b"send" => sending(rest),
-        b"read" => Some(Entry::Read(whole_number(rest)?)),
-        b"receive" => receiving(rest),
-        b"close" => Some(Entry::End(whole_number(rest)?, How::Close)),
-        b"kill" => Some(Entry::End(whole_number(rest)?, How::Kill)),
-        b"handshake" => handshake(rest),
-        b"with" => with(rest),
-        b"invoke" => invoking(rest),
-        b"status" => Some(Entry::Call(whole_number(rest)?, ClientCall::Status)),
-        b"result" => Some(Entry::Call(whole_number(rest)?, ClientCall::Result)),
-        b"list" => listing(rest),
-        _ => {
-            if line.is_empty() || line[0] == b'#' {
-                Some(Entry::Nothing)
-            } else {
-                None
-            }
-        }
+        b"gives" => Ok(Entry::Gives(read_what(heap, rest)?)),
+        _ => Ok(Entry::Call(read_call(heap, word, rest)?)),
     }
 }

@@ -1,5 +1,6 @@
 -- What a layer notes of what passes through it.
-use Rattle.std.specs.Prelude.{◌≡◌, ℕ, Bool, false, List, [], ◌∷◌, ◌++◌, map}
+use Rattle.std.specs.Prelude.{◌≡◌, ℕ, List, [], ◌∷◌, ◌++◌, map, Option, IfSome, IsSomeAnd}
+use Rattle.std.specs.Global.{Vec}
 use Rattle.recording.specs.declared.line.Direction.{Direction}
 use Rattle.trace.specs.declared.traced.Passed.{Passed}
 
@@ -10,10 +11,6 @@ Note = ℕ × Direction × List ℕ
 abbrev pub note_of : Passed → Note
 note_of p = (p.process, p.direction, p.bytes.items)
 
--- one note more stands behind the others, unless there was no memory for a note, now or before
-abbrev pub Noted : Bool → List Passed → Note → Bool → List Passed → Type 0
-Noted was before note is after = is ≡ false → (was ≡ false) × (map note_of after ≡ map note_of before ++ note ∷ [])
-
--- no note came or went
-abbrev pub SameNotes : Bool → List Passed → Bool → List Passed → Type 0
-SameNotes was before is after = (is ≡ was) × (after ≡ before)
+-- one note more stands behind the others; no notes once there was no memory for one
+abbrev pub Noted : Option (Vec Passed) → Note → Option (Vec Passed) → Type 0
+Noted before note after = IfSome after (λ all. IsSomeAnd before (λ some. map note_of all.items ≡ map note_of some.items ++ note ∷ []))

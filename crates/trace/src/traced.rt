@@ -1,8 +1,8 @@
 //! A layer over any host that notes what passes.
-ghost use Rattle.std.specs.Prelude.{◌≡◌, ◌++◌, [], ◌∷◌, map, take, IfOk, OnOk, OnErr};
+ghost use Rattle.std.specs.Prelude.{◌≡◌, ◌++◌, [], ◌∷◌, map, take, IfOk, OnOk, OnErr, IsSomeAnd, option_map};
 ghost use Rattle.host.specs.Acts.{Started, Received, Sent as SentTo, Ended, Grows, starting, taking, sending, ending, came};
 ghost use Rattle.recording.specs.declared.line.Direction.TheVariants.{Sent, Given};
-ghost use Rattle.trace.specs.Notes.{note_of, Noted, SameNotes};
+ghost use Rattle.trace.specs.Notes.{note_of, Noted};
 
 use host::fault::{Fault, NotStarted};
 use host::host::{Host, How};
@@ -17,24 +17,23 @@ pub struct Passed {
     pub bytes: Vec<u8>,
 }
 
-/// A host that means and logs what the host below does, and notes in order what passed; `lost` where there was no memory for that.
+/// A host that means and logs what the host below does, and notes in order what passed; `None` once there was no memory for a note.
 #[derive(Drop)]
 pub struct Traced<H> {
     pub below: H,
     pub heap: Global,
-    pub passed: Vec<Passed>,
-    pub lost: bool,
+    pub passed: Option<Vec<Passed>>,
 }
 
 /// Adds a note behind others.
 fn add(
     heap: Global,
-    passed: &mut Vec<Passed>,
+    mut passed: Vec<Passed>,
     process: usize,
     direction: Direction,
     bytes: &[u8],
-) -> Result<(), AllocError>
-    ensures { OnOk result (map note_of passed.new.items ≡ map note_of passed.old.items ++ (process, direction, bytes.now) ∷ []) }
+) -> Result<Vec<Passed>, AllocError>
+    ensures { IfOk result (λ all. map note_of all.items ≡ map note_of passed.items ++ (process, direction, bytes.now) ∷ []) }
 {
     let bytes = Vec::from_slice(heap, bytes)?;
     passed.push(Passed {
@@ -42,18 +41,43 @@ fn add(
         direction,
         bytes,
     })?;
-    Ok(())
+    Ok(passed)
 }
 
 impl<H> Traced<H> {
+    /// A layer that has noted nothing.
+    pub fn new(below: H, heap: Global) -> Traced<H>
+        ensures below { result.below ≡ below }
+        ensures noted { IsSomeAnd result.passed (λ all. all.items ≡ []) }
+    {
+        Traced {
+            below,
+            heap,
+            passed: Some(Vec::new(heap)),
+        }
+    }
+
+    /// Hands out what was noted, and begins anew unless there was no memory for a note.
+    pub fn take(&mut self) -> Option<Vec<Passed>>
+        ensures below { self.new.below ≡ self.old.below }
+        ensures taken { result ≡ self.old.passed }
+        ensures left { option_map (λ all. all.items) self.new.passed ≡ option_map (λ _. []) self.old.passed }
+    {
+        let passed = self.passed.take()?;
+        self.passed = Some(Vec::new(self.heap));
+        Some(passed)
+    }
+
     /// Notes bytes that passed.
     fn note(&mut self, process: usize, direction: Direction, bytes: &[u8])
         ensures below { self.new.below ≡ self.old.below }
-        ensures noted { Noted self.old.lost self.old.passed.items (process, direction, bytes.now) self.new.lost self.new.passed.items }
+        ensures noted { Noted self.old.passed (process, direction, bytes.now) self.new.passed }
     {
-        if add(self.heap, &mut self.passed, process, direction, bytes).is_err() {
-            self.lost = true;
-        }
+        let heap = self.heap;
+        self.passed = self
+            .passed
+            .take()
+            .and_then(|passed| add(heap, passed, process, direction, bytes).ok());
     }
 }
 
@@ -67,7 +91,7 @@ impl<H: Host> Host for Traced<H> {
     fn start(&mut self, command: &[u8]) -> Result<usize, NotStarted>
         ensures goes { Started H.capacity (H.world self.old.below) command.now result (H.world self.new.below) }
         ensures logs { Grows (H.log self.old.below) (starting command.now result ∷ []) (H.log self.new.below) }
-        ensures notes { SameNotes self.old.lost self.old.passed.items self.new.lost self.new.passed.items }
+        ensures notes { self.new.passed ≡ self.old.passed }
     {
         self.below.start(command)
     }
@@ -75,8 +99,8 @@ impl<H: Host> Host for Traced<H> {
     fn receive(&mut self, process: usize, area: &mut [u8]) -> Result<usize, Fault>
         ensures goes { Received (H.world self.old.below) process area.old result (H.world self.new.below) area.new }
         ensures logs { Grows (H.log self.old.below) (taking process (came result area.new) ∷ []) (H.log self.new.below) }
-        ensures notes { IfOk result (λ n. Noted self.old.lost self.old.passed.items (process, Given, take n area.new) self.new.lost self.new.passed.items) }
-        ensures refused { OnErr result (SameNotes self.old.lost self.old.passed.items self.new.lost self.new.passed.items) }
+        ensures notes { IfOk result (λ n. Noted self.old.passed (process, Given, take n area.new) self.new.passed) }
+        ensures refused { OnErr result (self.new.passed ≡ self.old.passed) }
     {
         let n = self.below.receive(process, area)?;
         self.note(process, Direction::Given, &area[0..n.min(area.len())]);
@@ -86,8 +110,8 @@ impl<H: Host> Host for Traced<H> {
     fn send(&mut self, process: usize, bytes: &[u8]) -> Result<(), Fault>
         ensures goes { SentTo (H.world self.old.below) process bytes.now result (H.world self.new.below) }
         ensures logs { Grows (H.log self.old.below) (sending process bytes.now result ∷ []) (H.log self.new.below) }
-        ensures notes { OnOk result (Noted self.old.lost self.old.passed.items (process, Sent, bytes.now) self.new.lost self.new.passed.items) }
-        ensures refused { OnErr result (SameNotes self.old.lost self.old.passed.items self.new.lost self.new.passed.items) }
+        ensures notes { OnOk result (Noted self.old.passed (process, Sent, bytes.now) self.new.passed) }
+        ensures refused { OnErr result (self.new.passed ≡ self.old.passed) }
     {
         self.below.send(process, bytes)?;
         self.note(process, Direction::Sent, bytes);
@@ -97,7 +121,7 @@ impl<H: Host> Host for Traced<H> {
     fn end(&mut self, process: usize, how: How)
         ensures goes { Ended (H.world self.old.below) process (H.world self.new.below) }
         ensures logs { Grows (H.log self.old.below) (ending process how ∷ []) (H.log self.new.below) }
-        ensures notes { SameNotes self.old.lost self.old.passed.items self.new.lost self.new.passed.items }
+        ensures notes { self.new.passed ≡ self.old.passed }
     {
         self.below.end(process, how);
     }

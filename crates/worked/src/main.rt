@@ -7,7 +7,7 @@ use packetline::line::Line;
 use packetline::packet::Packet;
 use packetline::{decode, encode, metadata, text};
 use slices::equal::first;
-use slices::name::Name;
+use slices::name::{Name, OutsideLimits};
 use slices::refusal::Numbered;
 use slices::rows::Rows;
 use std::alloc::AllocError;
@@ -28,19 +28,23 @@ fn shown(bytes: &[u8]) -> &str {
     }
 }
 
+/// Ends a line by a refusal's number.
+fn print_refusal<E: Numbered>(rt: &HostRuntime, e: E) -> io::Result<()> {
+    let number = e.refusal_number();
+    println!(rt; "refusal {number}")
+}
+
 /// The packet of a line laid over an area of `room` dots.
 fn frame(rt: &HostRuntime, line: &[u8], room: usize) -> io::Result<()> {
     let mut area: Vec<u8> = vec![in rt.alloc(); b'.'; room]?;
     let name = shown(line);
+    print!(rt; "frame {name} in {room} bytes: ")?;
     match encode::line_to_area(line, &mut area) {
         Ok(n) => {
             let laid = shown(&area);
-            println!(rt; "frame {name} in {room} bytes: {laid}, {n} bytes")
+            println!(rt; "{laid}, {n} bytes")
         }
-        Err(e) => {
-            let number = e.refusal_number();
-            println!(rt; "frame {name} in {room} bytes: refusal {number}")
-        }
+        Err(e) => print_refusal(rt, e),
     }
 }
 
@@ -48,26 +52,22 @@ fn frame(rt: &HostRuntime, line: &[u8], room: usize) -> io::Result<()> {
 fn frame_many(rt: &HostRuntime, n: usize) -> io::Result<()> {
     let payload: Vec<u8> = vec![in rt.alloc(); b'x'; n]?;
     let mut area: Vec<u8> = vec![in rt.alloc(); b'.'; 65536]?;
+    print!(rt; "frame {n} bytes: ")?;
     match encode::data_to_area(&payload, &mut area) {
         Ok(len) => {
             let header = shown(area.get(0..4).unwrap_or(b""));
-            println!(rt; "frame {n} bytes: {header}, {len} bytes in all")
+            println!(rt; "{header}, {len} bytes in all")
         }
-        Err(e) => {
-            let number = e.refusal_number();
-            println!(rt; "frame {n} bytes: refusal {number}")
-        }
+        Err(e) => print_refusal(rt, e),
     }
 }
 
 fn header(rt: &HostRuntime, four_bytes: &[u8; 4]) -> io::Result<()> {
     let name = shown(four_bytes);
+    print!(rt; "header {name}: ")?;
     match decode::hex_prefix(four_bytes) {
-        Ok(packet) => println!(rt; "header {name}: {packet:?}"),
-        Err(e) => {
-            let number = e.refusal_number();
-            println!(rt; "header {name}: refusal {number}")
-        }
+        Ok(packet) => println!(rt; "{packet:?}"),
+        Err(e) => print_refusal(rt, e),
     }
 }
 
@@ -119,18 +119,25 @@ fn kind(rt: &HostRuntime, line: &[u8]) -> io::Result<()> {
 }
 
 fn text_line(rt: &HostRuntime, payload: &[u8]) -> io::Result<()> {
+    print!(rt; "text: ")?;
     match text::text(payload) {
-        Ok(text) => println!(rt; "text: [{text}]"),
-        Err(e) => {
-            let number = e.refusal_number();
-            println!(rt; "text: refusal {number}")
-        }
+        Ok(text) => println!(rt; "[{text}]"),
+        Err(e) => print_refusal(rt, e),
     }
 }
 
 fn trim(rt: &HostRuntime, line: &[u8]) -> io::Result<()> {
     let less = metadata::trim(line);
     println!(rt; "trim {line:?}: {less:?}")
+}
+
+/// Where the first `smudge` and the first `delay` stand in clean, smudge, clean, smudge.
+fn places() -> Result<(Option<usize>, Option<usize>), OutsideLimits> {
+    let clean = Name::new(b"clean")?;
+    let smudge = Name::new(b"smudge")?;
+    let delay = Name::new(b"delay")?;
+    let known = [clean, smudge, clean, smudge];
+    Ok((first(&known, &smudge), first(&known, &delay)))
 }
 
 /// Names: which bytes make one, and where the first of equal ones stands.
@@ -143,19 +150,11 @@ fn names(rt: &HostRuntime) -> io::Result<()> {
     println!(rt;
         "names of 64, 65 and 0 bytes, and one with a blank: {fits} {over} {none} {blank}"
     )?;
-    let Ok(clean) = Name::new(b"clean") else {
-        return Ok(());
-    };
-    let Ok(smudge) = Name::new(b"smudge") else {
-        return Ok(());
-    };
-    let Ok(delay) = Name::new(b"delay") else {
-        return Ok(());
-    };
-    let known = [clean, smudge, clean, smudge];
-    let at = first(&known, &smudge);
-    let nowhere = first(&known, &delay);
-    println!(rt; "smudge and delay in clean, smudge, clean, smudge: {at:?} {nowhere:?}")
+    print!(rt; "smudge and delay in clean, smudge, clean, smudge: ")?;
+    match places() {
+        Ok((smudge, delay)) => println!(rt; "{smudge:?} {delay:?}"),
+        Err(e) => print_refusal(rt, e),
+    }
 }
 
 /// Versions, and three rows into two places.

@@ -1,0 +1,64 @@
+//! Why a line of a sheet is bad.
+use recording::failure::Failure;
+use recording::line::NotHexadecimal;
+use recording::show::NotShown;
+use std::alloc::{AllocError, AllocFailed};
+use std::fmt;
+
+/// Why a line of a sheet is bad.
+#[derive(Clone, Copy)]
+pub(crate) enum Bad {
+    Words,
+    NoProcess,
+    NotShown,
+    NotHexadecimal,
+    OutsideLimits,
+    NoVersions,
+    ListTooLarge,
+    OutOfMemory,
+}
+
+impl fmt::Display for Bad {
+    fn fmt<W: fmt::Write>(&self, f: &mut fmt::Formatter<W>) -> fmt::Result {
+        f.write_str(match self {
+            Bad::Words => "these are not the words of a sheet",
+            Bad::NoProcess => "no process stands before what is given",
+            Bad::NotShown => "bytes are not shown so between quotation marks",
+            Bad::NotHexadecimal => "its bytes are not pairs of lower-case hexadecimal digits",
+            Bad::OutsideLimits => "a payload has 1 to 65516 bytes",
+            Bad::NoVersions => "its versions are not numbers parted by commas",
+            Bad::ListTooLarge => "a listing has at most 65536 rows and 65536 bytes of room",
+            Bad::OutOfMemory => "there is no memory for it",
+        })
+    }
+}
+
+impl From<AllocError> for Bad {
+    fn from(_e: AllocError) -> Bad {
+        Bad::OutOfMemory
+    }
+}
+
+impl<T: Drop> From<AllocFailed<T>> for Bad {
+    fn from(_e: AllocFailed<T>) -> Bad {
+        Bad::OutOfMemory
+    }
+}
+
+impl From<Failure<NotShown>> for Bad {
+    fn from(e: Failure<NotShown>) -> Bad {
+        match e {
+            Failure::Refused(NotShown) => Bad::NotShown,
+            Failure::OutOfMemory => Bad::OutOfMemory,
+        }
+    }
+}
+
+impl From<Failure<NotHexadecimal>> for Bad {
+    fn from(e: Failure<NotHexadecimal>) -> Bad {
+        match e {
+            Failure::Refused(NotHexadecimal) => Bad::NotHexadecimal,
+            Failure::OutOfMemory => Bad::OutOfMemory,
+        }
+    }
+}

@@ -1,0 +1,53 @@
+//! What a sheet is played on.
+use crate::listing::Listing;
+use crate::refusals::Stopped;
+use crate::sheet::Pair;
+use anyhow::Context;
+use scripts::script::Script;
+use std::alloc::{AllocError, Global};
+use trace::traced::Traced;
+
+/// The host, a work area and a status area, the metadata that waits for an exchange, and for each process that was started the packets that passed, as long as it is open.
+#[derive(Drop)]
+pub(crate) struct Stage<'a> {
+    pub(crate) heap: Global,
+    pub(crate) host: Traced<Script<'a>>,
+    pub(crate) work: Vec<u8>,
+    pub(crate) status: Vec<u8>,
+    pub(crate) pairs: Vec<Pair>,
+    pub(crate) started: Vec<Option<Listing>>,
+}
+
+impl<'a> Stage<'a> {
+    /// The stage for a script, with nothing started.
+    pub(crate) fn new(heap: Global, script: Script<'a>) -> Result<Stage<'a>, AllocError> {
+        let work: Vec<u8> = vec![in heap; 0; 65_520]?;
+        let status: Vec<u8> = vec![in heap; 0; 128]?;
+        Ok(Stage {
+            heap,
+            host: Traced::new(script, heap),
+            work,
+            status,
+            pairs: Vec::new(heap),
+            started: Vec::new(heap),
+        })
+    }
+}
+
+impl Stage<'_> {
+    /// Adds what passed to the packets of its process, and answers the lines of those that it completes.
+    pub(crate) fn pass(&mut self) -> anyhow::Result<String> {
+        let mut lines = String::new(self.heap);
+        let passed = self
+            .host
+            .take()
+            .context("there is no memory for what passed")?;
+        for note in &passed {
+            if let Some(Some(listing)) = self.started.get_mut(note.process) {
+                let completed = listing.add(self.heap, note.direction, &note.bytes)?;
+                lines.push_str(completed.as_str())?;
+            }
+        }
+        Ok(lines)
+    }
+}
