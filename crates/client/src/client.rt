@@ -1,4 +1,4 @@
-//! The client of one process: the calls that users make.
+//! The client of one process: the calls that users make. They take host and areas apart and judge them; what goes on then takes a peer and a status area, which were judged.
 ghost use Rattle.std.specs.Prelude.{◌≡◌, ◌≤◌, IfOk};
 ghost use Rattle.slices.specs.Answers.{told};
 ghost use Rattle.slices.specs.Names.{name_bytes};

@@ -10,6 +10,7 @@ use slices::rows::Rows;
 /// Where a path lies in the text area.
 #[derive(Clone, Copy)]
 pub struct PathRow {
+    // Places in the text area that the caller lends: the library allocates nothing.
     pub at: usize,
     pub len: usize,
 }

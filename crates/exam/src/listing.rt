@@ -17,6 +17,7 @@ const SHOWN: usize = 72;
 struct Flow {
     bytes: Vec<u8>,
     read: usize,
+    // A flag, since a bad header is told once: the bytes would tell it again with each record.
     bad: bool,
     ghost within: { read ≤ vec_len bytes },
 }

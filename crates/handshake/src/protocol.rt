@@ -30,6 +30,7 @@ impl Numbered for Protocol {
     }
 }
 
+// Not a `CallError`: neither side is the caller, and both convert.
 /// Why a handshake did not come to its end: the line is at fault, or the process said what it must not.
 #[derive(Clone, Copy)]
 pub enum Refusal {

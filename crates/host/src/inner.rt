@@ -25,6 +25,7 @@ fn fill<H: Host>(host: &mut H, process: usize, area: &mut [u8]) -> Result<(), Fa
     ensures goes { Filled (H.world host.old) process area.old result (H.world host.new) area.new }
     ensures logs { Brought process (H.log host.old) (take (length area.old) (waits (H.world host.old) process)) (H.log host.new) }
 {
+    // As the library's own `read_exact`: what is counted are bytes that came, and the host says how many.
     let mut got = 0;
     while got < area.len() {
         got += host.receive(process, &mut area[got..])?;

@@ -1,4 +1,4 @@
-//! Packets read from a process of any host.
+//! Packets read from a process of any host. Host, process and area stand apart here: a call judges the area that it is lent, and a peer has one that was judged.
 ghost use Rattle.std.specs.Prelude.{◌≡◌, ◌≤◌, IfOk};
 ghost use Rattle.slices.specs.Answers.{told};
 ghost use Rattle.packetline.specs.Packets.{payload_length, with_payload};

@@ -1,4 +1,4 @@
-//! Packets sent to a process of any host.
+//! Packets sent to a process of any host. Host, process and area stand apart here: a call judges the area that it is lent, and a peer has one that was judged.
 ghost use Rattle.std.specs.Prelude.{◌≡◌, map};
 ghost use Rattle.packetline.specs.Packets.{flush, line, line_pkt};
 ghost use Rattle.host.specs.Talk.{sight, Works, send, send_all};

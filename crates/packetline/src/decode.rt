@@ -141,6 +141,7 @@ pub fn count(bytes: &[u8]) -> Tally
     let mut lines = PacketLines::new(bytes);
     let mut packets = 0;
     let mut flushes = 0;
+    // `for` over `by_ref()` was tried: nothing ties what `lines` has left to the loop's last iterator.
     while let Some(line) = lines.next() {
         packets += 1;
         if let PacketLineRef::Flush = line {

@@ -27,6 +27,7 @@ impl<'a> Line<'a> {
         ensures value { line_kind result ≡ kind_of payload.now }
         ensures law { IsLine payload.now (line_kind result) }
     {
+        // One `if` for each kind, as the specs read it; a chain of `or_else` needs a closure for each and is no shorter.
         if let Some(part) = after(b"status=", payload) {
             return Line::Status(part);
         }

@@ -8,6 +8,7 @@ use slices::equal::first;
 
 // A side of a line.
 #[derive(Clone, Copy)]
+// A switch by side and not a closure: the words of the specs (`put`, `part`, `rest`, `Bare`) go by it.
 enum Side {
     Front,
     Back,
@@ -41,6 +42,7 @@ fn is_blank(bytes: &[u8]) -> bool
 fn less_white(line: &[u8], side: Side) -> Option<&[u8]>
     ensures { MatchOption result (Bare side line.now) (λ t. Padded side line.now t.now × (length t.now < length line.now)) }
 {
+    // `find_map` over the range was tried: the goal at the end stays open.
     for n in 1..4 {
         if n <= line.len() {
             let (bytes, others) = split(line, side, n);

@@ -12,6 +12,7 @@ pub enum Packet {
     Data(usize),
 }
 
+// Not one generic type: a header and a packet are two things of the format, and gix-packetline has the second under this name.
 /// A packet with its payload, borrowed from the bytes that it was read from.
 #[derive(Clone, Copy)]
 pub enum PacketLineRef<'a> {

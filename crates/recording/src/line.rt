@@ -64,6 +64,7 @@ impl From<Failure<NotHexadecimal>> for Failure<BadLine> {
 pub(crate) fn hex_value(b: u8) -> Option<u8>
     ensures { DigitRead b result }
 {
+    // `to_digit` takes upper case as well.
     match b {
         b'0'..=b'9' => Some(b - b'0'),
         b'a'..=b'f' => Some(b - b'a' + 10),

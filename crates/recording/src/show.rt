@@ -110,6 +110,7 @@ pub fn read_back(heap: Global, text: &[u8]) -> Result<Vec<u8>, Failure<NotShown>
 {
     let mut bytes = Vec::new(heap);
     let mut rest = text;
+    // No iterator: how many bytes a step takes depends on what is left.
     while !rest.is_empty() {
         let b = lead(rest);
         let Some(tail) = behind(rest, b) else {

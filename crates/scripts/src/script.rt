@@ -35,6 +35,7 @@ pub struct Row {
 #[derive(Drop)]
 pub struct Script<'a> {
     bytes: &'a [u8],
+    // Fixed memory: 16 processes, and rows as places of one lent byte string; the library allocates nothing.
     unused: [Option<Row>; 16],
     started: [Option<Row>; 16],
     count: usize,

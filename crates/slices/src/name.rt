@@ -5,6 +5,7 @@ ghost use Rattle.slices.specs.Limits.{is_name};
 /// A name of 1 to 64 visible bytes: the first `len` of `bytes`.
 #[derive(Clone, Copy)]
 pub struct Name {
+    // Fixed memory: a name is a plain value, and the library allocates nothing.
     pub(crate) bytes: [u8; 64],
     pub(crate) len: usize,
     ghost room: { length bytes ≡ 64 },

@@ -22,6 +22,7 @@ impl<T: Drop> Numbered for Full<T> {
 /// The first `count` of the lent rows are held.
 #[derive(Drop)]
 pub struct Rows<'a, T> {
+    // Lent memory, so that a row without a place is refused and handed back; contracts say of each place what it holds, so no model hides them.
     rows: &'a mut [T],
     count: usize,
     ghost fits: { count ≤ length rows.now },
