@@ -5,6 +5,7 @@ ghost use Rattle.recording.specs.Shown.{shown, escaped, Unambiguous, ReadBack, B
 
 use crate::failure::Failure;
 use crate::line::hex_value;
+use packetline::inner::hex_char;
 use packetline::line::after;
 use std::alloc::{AllocError, Global};
 
@@ -12,22 +13,13 @@ use std::alloc::{AllocError, Global};
 #[derive(Clone, Copy, PartialEq, Eq, Debug)]
 pub struct NotShown;
 
-/// A hexadecimal digit in lower case.
-fn hex_char(d: u8) -> char
-    requires { d < 16 }
-    ensures value { result ≡ hex_char d }
-    ensures ascii { result < 128 }
-{
-    char::from_digit(u32::from(d), 16).unwrap()
-}
-
 /// A byte by its two digits behind a text.
 fn push_hex(text: &mut String, b: u8) -> Result<(), AllocError>
     ensures { OnOk result (string_bytes text.new ≡ string_bytes text.old ++ (92 ∷ 120 ∷ hex_char (b / 16) ∷ hex_char (b % 16) ∷ [])) }
 {
     text.push_str("\\x")?;
-    text.push(hex_char(b / 16))?;
-    text.push(hex_char(b % 16))?;
+    text.push(hex_char(usize::from(b / 16)) as char)?;
+    text.push(hex_char(usize::from(b % 16)) as char)?;
     Ok(())
 }
 
@@ -98,7 +90,12 @@ fn behind(text: &[u8], b: u8) -> Option<&[u8]>
         b'\\' => after(b"\\\\", text),
         b' '..=b'~' => after(&[b], text),
         _ => after(
-            &[b'\\', b'x', hex_char(b / 16) as u8, hex_char(b % 16) as u8],
+            &[
+                b'\\',
+                b'x',
+                hex_char(usize::from(b / 16)),
+                hex_char(usize::from(b % 16)),
+            ],
             text,
         ),
     }
