@@ -45,19 +45,25 @@ impl<T: Drop> From<AllocFailed<T>> for Bad {
     }
 }
 
-impl From<Failure<NotShown>> for Bad {
-    fn from(e: Failure<NotShown>) -> Bad {
-        match e {
-            Failure::Refused(NotShown) => Bad::NotShown,
-            Failure::OutOfMemory => Bad::OutOfMemory,
-        }
+impl From<NotShown> for Bad {
+    fn from(_e: NotShown) -> Bad {
+        Bad::NotShown
     }
 }
 
-impl From<Failure<NotHexadecimal>> for Bad {
-    fn from(e: Failure<NotHexadecimal>) -> Bad {
+impl From<NotHexadecimal> for Bad {
+    fn from(_e: NotHexadecimal) -> Bad {
+        Bad::NotHexadecimal
+    }
+}
+
+impl<E> From<Failure<E>> for Bad
+where
+    Bad: From<E>,
+{
+    fn from(e: Failure<E>) -> Bad {
         match e {
-            Failure::Refused(NotHexadecimal) => Bad::NotHexadecimal,
+            Failure::Refused(why) => why.into(),
             Failure::OutOfMemory => Bad::OutOfMemory,
         }
     }
