@@ -1,3 +1,4 @@
+pub mod Exits
 pub mod Takes
 pub mod Logging
 pub mod Fills

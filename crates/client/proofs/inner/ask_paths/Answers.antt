@@ -1,5 +1,5 @@
 use Rattle.std.proofs.Common.{◌≡◌, [], ◌∷◌, codes, Err, refl, ap, ◌∙◌}
-use Rattle.std.proofs.lemmas.Result.{err_from_is_err_and}
+use Rattle.host.proofs.Exits.{told_err}
 use Rattle.packetline.specs.Packets.{flush, line_pkt}
 use Rattle.host.proofs.Peering.{begun, sent_more, sent_stop}
 use Rattle.client.specs.Listings.{list_request}
@@ -8,9 +8,8 @@ use Rattle.client.proofs.inner.ask_paths.Goals as goal
 
 pub returns-in_err-send_line : goal.returns-in_err-send_line
 returns-in_err-send_line g c =
-    let e = err_from_is_err_and c.from_residual.result c.from_residual.ensures.1 in
     let next : list_request ≡ line_pkt (codes "command=list_available_blobs") ∷ flush ∷ [] = refl in
-    sent_stop (begun {left = list_request} refl) next _ _ c.in_err-send_line.ensures (e.1 ∙ ap (λ x. Err x) e.2)
+    sent_stop (begun {left = list_request} refl) next _ _ c.in_err-send_line.ensures (told_err c.from_residual.result c.from_residual.ensures.1)
 
 pub returns : goal.returns
 returns g c =

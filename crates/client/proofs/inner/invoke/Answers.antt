@@ -1,5 +1,5 @@
 use Rattle.std.proofs.Common.{Err, refl, ap, ◌∙◌}
-use Rattle.std.proofs.lemmas.Result.{err_from_is_err_and}
+use Rattle.host.proofs.Exits.{told_err}
 use Rattle.host.proofs.Peering.{same_then, later}
 use Rattle.process.proofs.Peering.{later_with}
 use Rattle.client.proofs.Invokes.{invoke_unasked, invoke_unsent, invoke_untold, invoke_told}
@@ -7,28 +7,25 @@ use Rattle.client.proofs.inner.invoke.Goals as goal
 
 pub returns-in_err-send_request : goal.returns-in_err-send_request
 returns-in_err-send_request g c =
-    let e = err_from_is_err_and c.from_residual.result c.from_residual.ensures.1 in
     let s = c.in_err-send_request.ensures in
     record {
       lent = s.lent;
       same_area = refl;
-      talks = invoke_unasked c.args.command.now c.args.meta.now c.args.content.now _ _ _ _ _ _ _ _ s.talks (e.1 ∙ ap (λ x. Err x) e.2);
+      talks = invoke_unasked c.args.command.now c.args.meta.now c.args.content.now _ _ _ _ _ _ _ _ s.talks (told_err c.from_residual.result c.from_residual.ensures.1);
     }
 
 pub returns-in_err-send_body : goal.returns-in_err-send_body
 returns-in_err-send_body g c =
-    let e = err_from_is_err_and c.from_residual-in_err-send_body.result c.from_residual-in_err-send_body.ensures.1 in
     let s = c.in_ok-send_request.ensures in
     let t = c.in_err-send_body.ensures in
     record {
       lent = same_then s.lent t.lent;
       same_area = refl;
-      talks = invoke_unsent c.args.command.now c.args.meta.now c.args.content.now _ _ _ _ _ _ _ s.talks _ _ _ _ (later s.lent t) (e.1 ∙ ap (λ x. Err x) e.2);
+      talks = invoke_unsent c.args.command.now c.args.meta.now c.args.content.now _ _ _ _ _ _ _ s.talks _ _ _ _ (later s.lent t) (told_err c.from_residual-in_err-send_body.result c.from_residual-in_err-send_body.ensures.1);
     }
 
 pub returns-in_err-read_status : goal.returns-in_err-read_status
 returns-in_err-read_status g c =
-    let e = err_from_is_err_and c.from_residual-in_err-read_status.result c.from_residual-in_err-read_status.ensures.1 in
     let s = c.in_ok-send_request.ensures in
     let t = c.in_ok-send_body.ensures in
     let lent = same_then s.lent t.lent in
@@ -36,7 +33,7 @@ returns-in_err-read_status g c =
     record {
       lent = same_then lent u.lent;
       same_area = u.same_area;
-      talks = invoke_untold c.args.command.now c.args.meta.now c.args.content.now _ _ _ _ _ _ _ s.talks _ _ _ (later s.lent t) _ _ _ _ _ (later_with lent u) (e.1 ∙ ap (λ x. Err x) e.2);
+      talks = invoke_untold c.args.command.now c.args.meta.now c.args.content.now _ _ _ _ _ _ _ s.talks _ _ _ (later s.lent t) _ _ _ _ _ (later_with lent u) (told_err c.from_residual-in_err-read_status.result c.from_residual-in_err-read_status.ensures.1);
     }
 
 pub returns : goal.returns

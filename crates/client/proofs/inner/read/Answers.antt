@@ -1,5 +1,5 @@
 use Rattle.std.proofs.Common.{◌≤◌, IfSome, Err, refl, ap, ◌∙◌, subst}
-use Rattle.std.proofs.lemmas.Result.{err_from_is_err_and}
+use Rattle.host.proofs.Exits.{told_err}
 use Rattle.host.proofs.Peering.{same_then}
 use Rattle.process.proofs.Peering.{later_with}
 use Rattle.client.proofs.Pieces.{piece_fault, piece_payload, piece_untold, piece_final}
@@ -7,19 +7,17 @@ use Rattle.client.proofs.inner.read.Goals as goal
 
 pub returns-in_err-n-clause-goes : goal.returns-in_err-n-clause-goes
 returns-in_err-n-clause-goes g c =
-    let e = err_from_is_err_and c.from_residual.result c.from_residual.ensures.1 in
     let s = c.in_err-n.ensures.goes in
-    record { lent = s.lent; same_area = refl; talks = piece_fault _ _ _ _ _ _ _ _ s.talks (e.1 ∙ ap (λ x. Err x) e.2) }
+    record { lent = s.lent; same_area = refl; talks = piece_fault _ _ _ _ _ _ _ _ s.talks (told_err c.from_residual.result c.from_residual.ensures.1) }
 
 pub returns-in_err-read_status-in-None-clause-goes : goal.returns-in_err-read_status-in-None-clause-goes
 returns-in_err-read_status-in-None-clause-goes g c =
-    let e = err_from_is_err_and c.from_residual-in_err-read_status-in-None.result c.from_residual-in_err-read_status-in-None.ensures.1 in
     let s = c.in_ok-n.ensures.goes in
     let t = c.in_err-read_status-in-None.ensures in
     record {
       lent = same_then s.lent t.lent;
       same_area = t.same_area;
-      talks = piece_untold _ _ _ _ _ _ _ s.talks c.in-None.is _ _ _ _ _ (later_with s.lent t) (e.1 ∙ ap (λ x. Err x) e.2);
+      talks = piece_untold _ _ _ _ _ _ _ s.talks c.in-None.is _ _ _ _ _ (later_with s.lent t) (told_err c.from_residual-in_err-read_status-in-None.result c.from_residual-in_err-read_status-in-None.ensures.1);
     }
 
 pub returns-in-Some : goal.returns-in-Some

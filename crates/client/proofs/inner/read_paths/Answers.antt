@@ -1,5 +1,5 @@
 use Rattle.std.proofs.Common.{[], Err, refl, ap, ◌∙◌, rules}
-use Rattle.std.proofs.lemmas.Result.{err_from_is_err_and}
+use Rattle.host.proofs.Exits.{told_err}
 use Rattle.host.proofs.Peering.{same_peer, same_then, later}
 use Rattle.process.proofs.Gathers.{read_falls}
 use Rattle.client.proofs.ListLoop.{lines_first, lines_room, paths_fault, paths_end, paths_line, paths_marker}
@@ -10,13 +10,12 @@ loop-rows-init g c = (same_peer _, refl, λ status. lines_first _ _ _ _ _ _ c.ne
 
 pub returns-in_err-read_packet : goal.returns-in_err-read_packet
 returns-in_err-read_packet g c =
-    let e = err_from_is_err_and c.from_residual.result c.from_residual.ensures.1 in
     let i = c.loop-rows.invariant in
     let s = c.in_err-read_packet.ensures.goes in
     record {
       lent = same_then i.0 s.lent;
       reads = λ status.
-          paths_fault _ _ _ _ _ status c.loop-rows.notes _ _ _ _ _ (i.2 status) _ _ _ _ c.new-rows.ensures.empty.0 (search rules) _ _ (later i.0 s) (e.1 ∙ ap (λ x. Err x) e.2);
+          paths_fault _ _ _ _ _ status c.loop-rows.notes _ _ _ _ _ (i.2 status) _ _ _ _ c.new-rows.ensures.empty.0 (search rules) _ _ (later i.0 s) (told_err c.from_residual.result c.from_residual.ensures.1);
     }
 
 pub returns-in-Flush : goal.returns-in-Flush

@@ -1,5 +1,5 @@
 use Rattle.std.proofs.Common.{Err, refl, ap, ◌∙◌, arith}
-use Rattle.std.proofs.lemmas.Result.{err_from_is_err_and}
+use Rattle.host.proofs.Exits.{told_err}
 use Rattle.host.proofs.Peering.{begun, sent_more, sent_stop}
 use Rattle.process.proofs.Lines.{sent_last, sent_then}
 use Rattle.client.specs.Requests.{request}
@@ -8,9 +8,8 @@ use Rattle.client.proofs.inner.send_request.Goals as goal
 
 pub returns-in_err-send_pair : goal.returns-in_err-send_pair
 returns-in_err-send_pair g c =
-    let e = err_from_is_err_and c.from_residual.result c.from_residual.ensures.1 in
     let next = request_first c.args.command.now c.args.meta.now in
-    sent_stop (begun {left = request c.args.command.now c.args.meta.now} refl) next _ _ c.in_err-send_pair.ensures (e.1 ∙ ap (λ x. Err x) e.2)
+    sent_stop (begun {left = request c.args.command.now c.args.meta.now} refl) next _ _ c.in_err-send_pair.ensures (told_err c.from_residual.result c.from_residual.ensures.1)
 
 pub loop-row-init : goal.loop-row-init
 loop-row-init g c = begun refl
@@ -20,10 +19,9 @@ send_pair-requires-in-loop-row g c = meta_short c.args.command.now c.args.meta.n
 
 pub returns-in_err-send_pair-2 : goal.returns-in_err-send_pair-2
 returns-in_err-send_pair-2 g c =
-    let e = err_from_is_err_and c.from_residual-in_err-send_pair-2.result c.from_residual-in_err-send_pair-2.ensures.1 in
     let first = request_first c.args.command.now c.args.meta.now in
     let next = meta_next c.args.meta.now c.loop-row.row-index (omega arith) in
-    sent_then first c.in_ok-send_pair.ensures (sent_stop c.loop-row.invariant next _ _ c.in_err-send_pair-2.ensures (e.1 ∙ ap (λ x. Err x) e.2))
+    sent_then first c.in_ok-send_pair.ensures (sent_stop c.loop-row.invariant next _ _ c.in_err-send_pair-2.ensures (told_err c.from_residual-in_err-send_pair-2.result c.from_residual-in_err-send_pair-2.ensures.1))
 
 pub loop-row-preserved : goal.loop-row-preserved
 loop-row-preserved g c =

@@ -1,5 +1,5 @@
 use Rattle.std.proofs.Common.{Err, refl, ap, ◌∙◌, arith}
-use Rattle.std.proofs.lemmas.Result.{err_from_is_err_and}
+use Rattle.host.proofs.Exits.{told_err}
 use Rattle.host.proofs.Peering.{begun, sent_more, sent_stop}
 use Rattle.handshake.specs.Handshakes.{capability_line}
 use Rattle.process.proofs.Lines.{lines_last, sent_last}
@@ -11,9 +11,8 @@ loop-name-init g c = begun refl
 
 pub returns-in_err-send_pair : goal.returns-in_err-send_pair
 returns-in_err-send_pair g c =
-    let e = err_from_is_err_and c.from_residual.result c.from_residual.ensures.1 in
     let next = names_next c.args.names.now c.loop-name.name-index c.name-item.result c.as_bytes.result.now (omega arith) c.name-item.is c.as_bytes.ensures.value in
-    sent_stop c.loop-name.invariant next _ _ c.in_err-send_pair.ensures (e.1 ∙ ap (λ x. Err x) e.2)
+    sent_stop c.loop-name.invariant next _ _ c.in_err-send_pair.ensures (told_err c.from_residual.result c.from_residual.ensures.1)
 
 pub loop-name-preserved : goal.loop-name-preserved
 loop-name-preserved g c =

@@ -1,5 +1,5 @@
 use Rattle.std.proofs.Common.{Err, refl, ap, ◌∙◌, arith}
-use Rattle.std.proofs.lemmas.Result.{err_from_is_err_and}
+use Rattle.host.proofs.Exits.{told_err}
 use Rattle.host.proofs.Fills.{came_none, came_more, came_stop, came_all, logs_more, logs_stop, logs_all}
 use Rattle.host.proofs.Logging.{brought_none}
 use Rattle.host.proofs.inner.fill.Goals as goal
@@ -9,11 +9,10 @@ loop-got-init g c = (came_none _ _ _, brought_none _ _)
 
 pub returns-in_err-got : goal.returns-in_err-got
 returns-in_err-got g c =
-    let e = err_from_is_err_and c.from_residual.result c.from_residual.ensures.1 in
     let i = c.loop-got.invariant in
     let s = c.in_err-got.ensures in
     record {
-      goes = came_stop _ _ _ _ _ _ i.0 _ _ _ _ (omega arith) s.goes (e.1 ∙ ap (λ x. Err x) e.2);
+      goes = came_stop _ _ _ _ _ _ i.0 _ _ _ _ (omega arith) s.goes (told_err c.from_residual.result c.from_residual.ensures.1);
       logs = logs_stop _ _ _ _ _ _ i.0 _ _ _ i.1 _ _ _ _ (omega arith) s.goes s.logs;
     }
 

@@ -1,5 +1,5 @@
 use Rattle.std.proofs.Common.{[], Err, refl, ap, ◌∙◌}
-use Rattle.std.proofs.lemmas.Result.{err_from_is_err_and}
+use Rattle.host.proofs.Exits.{told_err}
 use Rattle.host.specs.Talk.{read_text}
 use Rattle.host.proofs.Peering.{same_peer, same_then, later}
 use Rattle.process.specs.Statuses.{status_step}
@@ -12,13 +12,12 @@ loop-n-init g c = (same_peer _, refl, ([], left_first read_text status_step _ _ 
 
 pub returns-in_err-n : goal.returns-in_err-n
 returns-in_err-n g c =
-    let e = err_from_is_err_and c.from_residual.result c.from_residual.ensures.1 in
     let i = c.loop-n.invariant in
     let s = c.in_err-n.ensures.goes in
     record {
       lent = same_then i.0 s.lent;
       same_area = i.1;
-      talks = told_fault _ _ _ _ _ _ _ _ _ i.2.1 _ _ _ _ (later i.0 s) (e.1 ∙ ap (λ x. Err x) e.2);
+      talks = told_fault _ _ _ _ _ _ _ _ _ i.2.1 _ _ _ _ (later i.0 s) (told_err c.from_residual.result c.from_residual.ensures.1);
     }
 
 pub loop-n-smaller : goal.loop-n-smaller

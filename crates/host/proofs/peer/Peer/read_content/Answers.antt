@@ -1,13 +1,12 @@
 use Rattle.std.proofs.Common.{◌≤◌, Err, sym, ap, ◌∙◌, subst, rules}
-use Rattle.std.proofs.lemmas.Result.{err_from_is_err_and}
+use Rattle.host.proofs.Exits.{told_err}
 use Rattle.packetline.specs.Packets.{payload_length}
 use Rattle.host.proofs.Wants.{content_answer, marker_answer, content_fault, content_works}
 use Rattle.host.proofs.peer.Peer.read_content.Goals as goal
 
 pub returns-in_err-read_packet : goal.returns-in_err-read_packet
 returns-in_err-read_packet g c =
-    let e = err_from_is_err_and c.from_residual.result c.from_residual.ensures.1 in
-    record { bound = search rules; goes = record { lent = search rules; talks = content_fault _ _ _ _ _ _ _ c.in_err-read_packet.ensures.goes.talks (e.1 ∙ ap (λ x. Err x) e.2) } }
+    record { bound = search rules; goes = record { lent = search rules; talks = content_fault _ _ _ _ _ _ _ c.in_err-read_packet.ensures.goes.talks (told_err c.from_residual.result c.from_residual.ensures.1) } }
 
 pub returns-in-Flush : goal.returns-in-Flush
 returns-in-Flush g c = record { bound = tt; goes = record { lent = search rules; talks = content_works _ _ _ _ _ _ _ c.in_ok-read_packet.ensures.goes.talks (ap content_answer (sym c.in-Flush.is)) } }

@@ -1,6 +1,6 @@
 use Rattle.std.proofs.Common.{◌≡◌, map, length, min, Err, ap, ◌∙◌, arith, rules}
 use Rattle.std.proofs.lemmas.List.{drop_all}
-use Rattle.std.proofs.lemmas.Result.{err_from_is_err_and}
+use Rattle.host.proofs.Exits.{told_err}
 use Rattle.packetline.specs.Packets.{line}
 use Rattle.host.specs.Parts.{parts}
 use Rattle.host.proofs.Peering.{begun, sent_more, sent_stop, sent_all}
@@ -14,10 +14,9 @@ loop-part-init g c =
 
 pub returns-in_err-send_packet : goal.returns-in_err-send_packet
 returns-in_err-send_packet g c =
-    let e = err_from_is_err_and c.from_residual.result c.from_residual.ensures.1 in
     let s = c.in-Some.ensures.steps in
     let next = parts_next _ _ _ s.1.0 (s.1.1 ∙ ap (λ n. min n (length c.loop-part.part-iterator.rest.now)) c.loop-part.invariant.0) s.1.2 in
-    record { goes = sent_stop c.loop-part.invariant.1 next _ _ c.in_err-send_packet.ensures (e.1 ∙ ap (λ x. Err x) e.2); law = parted _ }
+    record { goes = sent_stop c.loop-part.invariant.1 next _ _ c.in_err-send_packet.ensures (told_err c.from_residual.result c.from_residual.ensures.1); law = parted _ }
 
 pub loop-part-preserved : goal.loop-part-preserved
 loop-part-preserved g c =

@@ -1,6 +1,6 @@
 use Rattle.std.proofs.Common.{[], map, Err, refl, ap, ◌∙◌, arith}
 use Rattle.std.proofs.lemmas.List.{drop_all}
-use Rattle.std.proofs.lemmas.Result.{err_from_is_err_and}
+use Rattle.host.proofs.Exits.{told_err}
 use Rattle.packetline.specs.Packets.{line_pkt}
 use Rattle.host.proofs.Peering.{begun, sent_more, sent_stop, sent_all}
 use Rattle.host.proofs.Sends.{lines_more, each_sendable}
@@ -15,9 +15,8 @@ send_line-requires g c =
 
 pub returns-in_err-send_line : goal.returns-in_err-send_line
 returns-in_err-send_line g c =
-    let e = err_from_is_err_and c.from_residual.result c.from_residual.ensures.1 in
     let next = lines_more (λ x. line_pkt x.now) c.args.lines.now c.loop-line.line-index (record { ref_ptr = (0, 0); now = [] }) (omega arith) in
-    sent_stop c.loop-line.invariant next _ _ c.in_err-send_line.ensures (e.1 ∙ ap (λ x. Err x) e.2)
+    sent_stop c.loop-line.invariant next _ _ c.in_err-send_line.ensures (told_err c.from_residual.result c.from_residual.ensures.1)
 
 pub loop-line-preserved : goal.loop-line-preserved
 loop-line-preserved g c =

@@ -1,6 +1,6 @@
 use Rattle.std.proofs.Common.{◌∷◌, ◌++◌, Err, refl, ap, ◌∙◌, arith, length-append, rules}
 use Rattle.std.proofs.lemmas.List.{take-append-drop}
-use Rattle.std.proofs.lemmas.Result.{err_from_is_err_and}
+use Rattle.host.proofs.Exits.{told_err}
 use Rattle.packetline.specs.Packets.{line_pkt}
 use Rattle.packetline.proofs.Laying.{pair_sendable}
 use Rattle.host.proofs.Sends.{front_works}
@@ -14,12 +14,11 @@ slice_bounds-send-end g c = omega (arith, simp length-append at c.lay_pair-end.e
 
 pub returns-in_err-send : goal.returns-in_err-send
 returns-in_err-send g c =
-    let e = err_from_is_err_and c.from_residual.result c.from_residual.ensures.1 in
     let s = c.in_err-send.ensures in
     record {
       lent = search rules;
       talks = rw take-append-drop (front_works _ _ (line_pkt (c.args.left.now ++ c.args.sign ∷ c.args.right.now)) c.args.self.now.work.now _ _ _ _ c.lay_pair-end.ensures.laid _ c.lay_pair-end.ensures.len _ _ s.goes s.logs
-          (e.1 ∙ ap (λ x. Err x) e.2));
+          (told_err c.from_residual.result c.from_residual.ensures.1));
     }
 
 pub returns : goal.returns
