@@ -8,7 +8,7 @@ use slices::equal::first;
 
 // A side of a line.
 #[derive(Clone, Copy)]
-// A switch by side and not a closure: the words of the specs (`put`, `part`, `rest`, `Bare`) go by it.
+// A switch by side: as closures each side would be three functions (its bytes, the others, both put together), passed side by side.
 enum Side {
     Front,
     Back,

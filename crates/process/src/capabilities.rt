@@ -20,7 +20,7 @@ fn has_bit(mask: u32, k: usize) -> bool
 
 impl Capabilities {
     /// No name.
-    // Not `Default`: that says nothing of what it is.
+    // A name that users call; `Default` beside it would be a second one.
     pub fn none() -> Capabilities
         ensures { result.mask ≡ 0 }
     {

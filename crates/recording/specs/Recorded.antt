@@ -81,6 +81,6 @@ BytesRead digits (Err (Refused _)) = IsNotHexadecimal digits
 BytesRead digits (Err OutOfMemory) = Unit {0}
 
 -- a failure to read a record's digits, as one to read its line
-abbrev pub of_digits : Failure NoHexadecimal → Failure BadLine
-of_digits (Refused _) = Refused NotHexadecimal
-of_digits OutOfMemory = OutOfMemory
+abbrev pub refused_digits : Failure NoHexadecimal → Failure BadLine
+refused_digits (Refused _) = Refused NotHexadecimal
+refused_digits OutOfMemory = OutOfMemory

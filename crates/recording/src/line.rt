@@ -1,6 +1,6 @@
 //! One line of a recording.
 ghost use Rattle.std.specs.Prelude.{◌≡◌, ◌∷◌, Some};
-ghost use Rattle.recording.specs.Recorded.{sign, DigitRead, ByteRead, BytesRead, Parsed, bad_line_text, of_digits};
+ghost use Rattle.recording.specs.Recorded.{sign, DigitRead, ByteRead, BytesRead, Parsed, bad_line_text, refused_digits};
 
 use crate::failure::Failure;
 use std::alloc::Global;
@@ -50,7 +50,7 @@ impl Error for BadLine {}
 pub struct NotHexadecimal;
 
 impl From<Failure<NotHexadecimal>> for Failure<BadLine> {
-    ghost from_gives = { λ e r. r ≡ of_digits e };
+    ghost from_gives = { λ e r. r ≡ refused_digits e };
 
     fn from(e: Failure<NotHexadecimal>) -> Failure<BadLine> {
         match e {

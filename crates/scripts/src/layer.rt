@@ -8,7 +8,7 @@ pub struct Forward<H> {
     pub below: H,
 }
 
-// The layers forward by hand: their worlds and logs differ, and a method that lends the host below needs a longer clause than these bodies.
+// The layers forward by hand: one `impl Host` for every layer is only for the crate of `Host`, and a method that lends the host below needs a longer clause than these bodies.
 impl<H: Host> Host for Forward<H> {
     ghost world = { λ s. H.Host.world s.below };
 
