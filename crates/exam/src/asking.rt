@@ -1,6 +1,6 @@
 //! A client's calls over a script that is traced, and their answers in words.
 use crate::lines::items;
-use crate::listing::{quote, shown};
+use crate::listing::{Quoted, shown};
 use crate::refusals::{Answer, Stopped, refused};
 use crate::sheet::{ClientCall, Pair};
 use crate::stage::Stage;
@@ -13,9 +13,10 @@ use host::call::CallError;
 use process::area::MAX_STATUS_LEN;
 use process::capabilities::Capabilities;
 use process::status::{Status, Word};
-use recording::show::escape;
+use recording::show::Escaped;
 use slices::name::Name;
 use std::alloc::{AllocError, Global};
+use std::fmt;
 use std::mem::replace;
 
 /// A client of a process, whether hands were shaken with it or not.
@@ -41,9 +42,7 @@ fn named(heap: Global, capabilities: Capabilities, names: &[Name]) -> Result<Str
     let mut text = String::new(heap);
     for (k, name) in names.iter().enumerate() {
         if capabilities.contains(k) {
-            let name = escape(heap, name.as_bytes())?;
-            text.push_str(" ")?;
-            text.push_str(name.as_str())?;
+            write!(text, " {}", Escaped(name.as_bytes()))?;
         }
     }
     if text.is_empty() {
@@ -63,15 +62,30 @@ fn meta(heap: Global, pairs: &[Pair]) -> Result<Vec<Meta<'_>>, AllocError> {
         .collect(heap)
 }
 
-/// A status, whose name lies at the front of the area.
-fn said(heap: Global, status: Status, area: &[u8]) -> Result<String, AllocError> {
-    match status {
-        Status::Previous => String::from_str(heap, "previous"),
-        Status::Unset => String::from_str(heap, "unset"),
-        Status::Named(Word::Success, _) => String::from_str(heap, "success"),
-        Status::Named(_, len) => {
-            quote(heap, &area[0..len.min(MAX_STATUS_LEN).min(area.len())], len)
+/// A status, whose name lies at the front of the area, and whether it succeeds.
+#[derive(Clone, Copy)]
+struct Told<'a> {
+    status: Status,
+    area: &'a [u8],
+}
+
+impl fmt::Display for Told<'_> {
+    fn fmt<W: fmt::Write>(&self, f: &mut fmt::Formatter<W>) -> fmt::Result {
+        f.write_str("status ")?;
+        match self.status {
+            Status::Previous => f.write_str("previous")?,
+            Status::Unset => f.write_str("unset")?,
+            Status::Named(Word::Success, _) => f.write_str("success")?,
+            Status::Named(_, len) => {
+                let front = &self.area[0..len.min(MAX_STATUS_LEN).min(self.area.len())];
+                write!(f, "{}", Quoted { front, whole: len })?;
+            }
         }
+        f.write_str(if self.status.is_success() {
+            ", succeeds"
+        } else {
+            ", does not succeed"
+        })
     }
 }
 
@@ -82,15 +96,12 @@ fn path_at(text: &[u8], row: PathRow) -> &[u8] {
 }
 
 impl Stage<'_> {
-    /// A status, whose name lies in the status area, and whether it succeeds.
-    fn told(&self, status: Status) -> Result<String, AllocError> {
-        let text = said(self.heap, status, &self.status)?;
-        let succeeds = if status.is_success() {
-            "succeeds"
-        } else {
-            "does not succeed"
-        };
-        format!(in self.heap; "status {text}, {succeeds}")
+    /// A status, whose name lies in the status area.
+    fn told(&self, status: Status) -> Told<'_> {
+        Told {
+            status,
+            area: &self.status,
+        }
     }
 
     fn handshake(
@@ -130,14 +141,14 @@ impl Stage<'_> {
                 content,
             )
             .map_err(refused)?;
-        Ok(self.told(status)?)
+        Ok(format!(in self.heap; "{}", self.told(status))?)
     }
 
     fn read_status(&mut self, process: usize) -> Answer {
         let status = client_of(process)
             .read_status(&mut self.host, &mut self.work, &mut self.status)
             .map_err(refused)?;
-        Ok(self.told(status)?)
+        Ok(format!(in self.heap; "{}", self.told(status))?)
     }
 
     fn read_result(&mut self, process: usize) -> Answer {
@@ -146,10 +157,10 @@ impl Stage<'_> {
             .map_err(refused)?;
         match output {
             Output::Payload(n) => {
-                let text = shown(self.heap, &self.work[0..n.min(self.work.len())])?;
-                Ok(format!(in self.heap; "payload {text}")?)
+                let payload = shown(&self.work[0..n.min(self.work.len())]);
+                Ok(format!(in self.heap; "payload {payload}")?)
             }
-            Output::Final(status) => Ok(self.told(status)?),
+            Output::Final(status) => Ok(format!(in self.heap; "{}", self.told(status))?),
         }
     }
 
@@ -168,24 +179,25 @@ impl Stage<'_> {
             Ok(listed) => {
                 let stored = listed.stored;
                 let noun = if stored == 1 { "path" } else { "paths" };
-                let status = self.told(listed.status)?;
-                (format!(in self.heap; "{stored} {noun}, {status}")?, stored)
+                let answer = format!(in self.heap;
+                    "{stored} {noun}, {}",
+                    self.told(listed.status)
+                )?;
+                (answer, stored)
             }
             Err(CallError::Line(ListFault::Full(listed))) => {
                 let named = listed.named;
                 let stored = listed.stored;
-                let status = self.told(listed.status)?;
-                (
-                    format!(in self.heap; "7, no space: {named} named, {stored} stored, {status}")?,
-                    stored,
-                )
+                let answer = format!(in self.heap;
+                    "7, no space: {named} named, {stored} stored, {}",
+                    self.told(listed.status)
+                )?;
+                (answer, stored)
             }
             Err(e) => return Err(refused(e)),
         };
         for row in rows.iter().take(stored) {
-            let path = shown(self.heap, path_at(&text, *row))?;
-            answer.push_str("\n    path ")?;
-            answer.push_str(path.as_str())?;
+            write!(answer, "\n    path {}", shown(path_at(&text, *row)))?;
         }
         Ok(answer)
     }

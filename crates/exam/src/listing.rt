@@ -5,9 +5,10 @@ use packetline::decode;
 use packetline::decode::streaming;
 use packetline::packet::PacketLineRef;
 use recording::line::Direction;
-use recording::show::escape;
+use recording::show::Escaped;
 use slices::refusal::Numbered;
 use std::alloc::{AllocError, Global};
+use std::fmt;
 
 /// How many bytes of a payload or of a path are shown.
 const SHOWN: usize = 72;
@@ -23,30 +24,41 @@ struct Flow {
 }
 
 /// The front of bytes between quotation marks, and how many bytes of the whole are behind it.
-pub(crate) fn quote(heap: Global, front: &[u8], whole: usize) -> Result<String, AllocError> {
-    let text = escape(heap, front)?;
-    let more = whole.saturating_sub(front.len());
-    if more > 0 {
-        format!(in heap; "\"{text}\" and {more} bytes more")
-    } else {
-        format!(in heap; "\"{text}\"")
-    }
+#[derive(Clone, Copy)]
+pub(crate) struct Quoted<'a> {
+    pub(crate) front: &'a [u8],
+    pub(crate) whole: usize,
 }
 
 /// Bytes between quotation marks, as far as they are shown.
-pub(crate) fn shown(heap: Global, bytes: &[u8]) -> Result<String, AllocError> {
-    quote(heap, &bytes[0..bytes.len().min(SHOWN)], bytes.len())
+pub(crate) fn shown(bytes: &[u8]) -> Quoted<'_> {
+    Quoted {
+        front: &bytes[0..bytes.len().min(SHOWN)],
+        whole: bytes.len(),
+    }
+}
+
+impl fmt::Display for Quoted<'_> {
+    fn fmt<W: fmt::Write>(&self, f: &mut fmt::Formatter<W>) -> fmt::Result {
+        write!(f, "\"{}\"", Escaped(self.front))?;
+        match self.whole.saturating_sub(self.front.len()) {
+            0 => Ok(()),
+            more => write!(f, " and {more} bytes more"),
+        }
+    }
 }
 
 /// A packet's kind, and its payload as far as it is shown.
-pub(crate) fn describe(heap: Global, line: PacketLineRef<'_>) -> Result<String, AllocError> {
-    match line {
-        PacketLineRef::Flush => String::from_str(heap, "flush"),
-        PacketLineRef::Delimiter => String::from_str(heap, "delimiter"),
-        PacketLineRef::ResponseEnd => String::from_str(heap, "response end"),
-        PacketLineRef::Data(payload) => {
-            let text = shown(heap, payload)?;
-            format!(in heap; "data {text}")
+#[derive(Clone, Copy)]
+pub(crate) struct Described<'a>(pub(crate) PacketLineRef<'a>);
+
+impl fmt::Display for Described<'_> {
+    fn fmt<W: fmt::Write>(&self, f: &mut fmt::Formatter<W>) -> fmt::Result {
+        match self.0 {
+            PacketLineRef::Flush => f.write_str("flush"),
+            PacketLineRef::Delimiter => f.write_str("delimiter"),
+            PacketLineRef::ResponseEnd => f.write_str("response end"),
+            PacketLineRef::Data(payload) => write!(f, "data {}", shown(payload)),
         }
     }
 }
@@ -64,7 +76,6 @@ impl Flow {
     fn advance(
         &mut self,
         lines: &mut String,
-        heap: Global,
         sign: &str,
         last: usize,
     ) -> Result<usize, AllocError> {
@@ -78,15 +89,15 @@ impl Flow {
             match streaming(unread) {
                 Ok(Some(whole)) => {
                     number = number.saturating_add(1);
-                    let header = escape(heap, &unread[0..4])?;
-                    let text = describe(heap, whole.line)?;
-                    writeln!(lines, "{number:>4} {sign} {header} {text}")?;
+                    let header = Escaped(&unread[0..4]);
+                    let packet = Described(whole.line);
+                    writeln!(lines, "{number:>4} {sign} {header} {packet}")?;
                     self.read = read + whole.bytes_consumed;
                 }
                 Ok(None) => break,
                 Err(e) => {
                     number = number.saturating_add(1);
-                    let header = escape(heap, &unread[0..4])?;
+                    let header = Escaped(&unread[0..4]);
                     let refusal = e.refusal_number();
                     writeln!(
                         lines,
@@ -110,7 +121,7 @@ impl Flow {
             println!(rt; "left over of what was {name}: {left} bytes, from a bad header on")?;
         } else {
             let n = left.min(SHOWN);
-            let text = escape(rt.alloc(), &self.bytes.as_slice()[read..read + n])?;
+            let text = Escaped(&self.bytes.as_slice()[read..read + n]);
             println!(rt;
                 "left over of what was {name}: {left} bytes, less than a packet: \"{text}\""
             )?;
@@ -136,6 +147,14 @@ impl Listing {
         }
     }
 
+    /// What went in a direction.
+    fn flow(&mut self, direction: Direction) -> &mut Flow {
+        match direction {
+            Direction::Sent => &mut self.sent,
+            Direction::Given => &mut self.given,
+        }
+    }
+
     /// Adds a record, and answers a line for each packet that it completes.
     pub(crate) fn add(
         &mut self,
@@ -144,16 +163,14 @@ impl Listing {
         bytes: &[u8],
     ) -> Result<String, AllocError> {
         let mut lines = String::new(heap);
-        match direction {
-            Direction::Sent => {
-                self.sent.bytes.extend_from_slice(bytes)?;
-                self.last = self.sent.advance(&mut lines, heap, ">", self.last)?;
-            }
-            Direction::Given => {
-                self.given.bytes.extend_from_slice(bytes)?;
-                self.last = self.given.advance(&mut lines, heap, "<", self.last)?;
-            }
-        }
+        let sign = match direction {
+            Direction::Sent => ">",
+            Direction::Given => "<",
+        };
+        let last = self.last;
+        let flow = self.flow(direction);
+        flow.bytes.extend_from_slice(bytes)?;
+        self.last = flow.advance(&mut lines, sign, last)?;
         Ok(lines)
     }
 

@@ -1,6 +1,6 @@
 //! A sheet played over the script host.
 use crate::cast::{Played, Sheet};
-use crate::listing::{Listing, describe};
+use crate::listing::{Described, Listing};
 use crate::refusals::{Answer, Stopped, refused};
 use crate::sheet::{Call, PlainCall, What};
 use crate::stage::Stage;
@@ -8,7 +8,7 @@ use anyhow::bail;
 use host::host::{Host, How};
 use host::reading::read;
 use host::sending::{send_flush, send_line};
-use recording::show::escape;
+use recording::show::Escaped;
 use scripts::script::Script;
 
 impl Stage<'_> {
@@ -34,7 +34,8 @@ impl Stage<'_> {
     /// Reads one packet.
     fn read(&mut self, process: usize) -> Answer {
         let packet = read(&mut self.host, process, &mut self.work).map_err(refused)?;
-        Ok(describe(self.heap, packet.with_payload(&self.work))?)
+        let packet = Described(packet.with_payload(&self.work));
+        Ok(format!(in self.heap; "{packet}")?)
     }
 
     /// Receives at most `most` bytes.
@@ -44,8 +45,8 @@ impl Stage<'_> {
             .host
             .receive(process, &mut self.work[0..most])
             .map_err(refused)?;
-        let text = escape(self.heap, &self.work[0..n.min(self.work.len())])?;
-        Ok(format!(in self.heap; "bytes \"{text}\"")?)
+        let bytes = Escaped(&self.work[0..n.min(self.work.len())]);
+        Ok(format!(in self.heap; "bytes \"{bytes}\"")?)
     }
 
     /// Ends a process, and notes that.
@@ -75,7 +76,7 @@ impl Stage<'_> {
 fn print_line(rt: &HostRuntime, line: &[u8]) -> anyhow::Result<()> {
     match std::str::from_utf8(line) {
         Ok(text) => println!(rt; "{text}")?,
-        Err(_) => println!(rt; "{}", escape(rt.alloc(), line)?)?,
+        Err(_) => println!(rt; "{}", Escaped(line))?,
     }
     Ok(())
 }

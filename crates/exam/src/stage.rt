@@ -3,6 +3,8 @@ use crate::listing::Listing;
 use crate::refusals::Stopped;
 use crate::sheet::Pair;
 use anyhow::Context;
+use host::inner::MAX_LINE_LEN;
+use process::area::MAX_STATUS_LEN;
 use scripts::script::Script;
 use std::alloc::{AllocError, Global};
 use trace::traced::Traced;
@@ -21,8 +23,8 @@ pub(crate) struct Stage<'a> {
 impl<'a> Stage<'a> {
     /// The stage for a script, with nothing started.
     pub(crate) fn new(heap: Global, script: Script<'a>) -> Result<Stage<'a>, AllocError> {
-        let work: Vec<u8> = vec![in heap; 0; 65_520]?;
-        let status: Vec<u8> = vec![in heap; 0; 128]?;
+        let work: Vec<u8> = vec![in heap; 0; MAX_LINE_LEN]?;
+        let status: Vec<u8> = vec![in heap; 0; MAX_STATUS_LEN]?;
         Ok(Stage {
             heap,
             host: Traced::new(script, heap),

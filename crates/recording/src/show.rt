@@ -1,5 +1,5 @@
 //! Bytes shown to a person, each so that it can be told from every other.
-ghost use Rattle.std.specs.Prelude.{◌≡◌, ◌/◌, ◌%◌, ◌<◌, [], ◌∷◌, ◌++◌, IfOk, string_bytes, OnOk, slice_index};
+ghost use Rattle.std.specs.Prelude.{◌≡◌, ◌/◌, ◌%◌, ◌<◌, [], ◌∷◌, ◌++◌, IfOk, string_bytes, slice_index, Some};
 ghost use Rattle.packetline.specs.Packets.{hex_char};
 ghost use Rattle.recording.specs.Shown.{shown, escaped, Unambiguous, ReadBack, Behind, digit_value, lead};
 
@@ -8,45 +8,57 @@ use crate::line::hex_value;
 use packetline::inner::hex_char;
 use packetline::line::after;
 use std::alloc::{AllocError, Global};
+use std::fmt;
 
 /// A text that shows no bytes.
 #[derive(Clone, Copy, PartialEq, Eq, Debug)]
 pub struct NotShown;
 
-/// A byte by its two digits behind a text.
-fn push_hex(text: &mut String, b: u8) -> Result<(), AllocError>
-    ensures { OnOk result (string_bytes text.new ≡ string_bytes text.old ++ (92 ∷ 120 ∷ hex_char (b / 16) ∷ hex_char (b % 16) ∷ [])) }
-{
-    text.push_str("\\x")?;
-    text.push(hex_char(usize::from(b / 16)) as char)?;
-    text.push(hex_char(usize::from(b % 16)) as char)?;
-    Ok(())
-}
+/// A byte as it is shown.
+#[derive(Clone, Copy)]
+struct Shown(u8);
 
-/// One byte behind a text.
-fn push_byte(text: &mut String, b: u8) -> Result<(), AllocError>
-    ensures { OnOk result (string_bytes text.new ≡ string_bytes text.old ++ shown b) }
-{
-    match b {
-        b'\n' => text.push_str("\\n"),
-        b'"' => text.push_str("\\\""),
-        b'\\' => text.push_str("\\\\"),
-        b' '..=b'~' => text.push(b as char),
-        _ => push_hex(text, b),
+impl fmt::Display for Shown {
+    ghost output = { λ b. Some (shown b.0) };
+
+    fn fmt<W: fmt::Write>(&self, f: &mut fmt::Formatter<W>) -> fmt::Result {
+        let b = self.0;
+        match b {
+            b'\n' => f.write_str("\\n"),
+            b'"' => f.write_str("\\\""),
+            b'\\' => f.write_str("\\\\"),
+            b' '..=b'~' => f.write_char(b as char),
+            _ => {
+                f.write_str("\\x")?;
+                f.write_char(hex_char(usize::from(b / 16)) as char)?;
+                f.write_char(hex_char(usize::from(b % 16)) as char)
+            }
+        }
     }
 }
 
-/// Bytes as a text: printable ASCII as it is, the rest behind a backslash.
-#[tactic(auto, using(crate::proofs::Apart::escaped_more))]
+/// Bytes that print as a text: printable ASCII as it is, the rest behind a backslash.
+#[derive(Clone, Copy)]
+pub struct Escaped<'a>(pub &'a [u8]);
+
+impl fmt::Display for Escaped<'_> {
+    ghost output = { λ bytes. Some (escaped bytes.0.now) };
+
+    fn fmt<W: fmt::Write>(&self, f: &mut fmt::Formatter<W>) -> fmt::Result {
+        for b in self.0 {
+            write!(f, "{}", Shown(*b))?;
+        }
+        Ok(())
+    }
+}
+
+/// Bytes as the text that `Escaped` prints.
+#[tactic(auto, using(crate::proofs::Apart::unambiguous))]
 pub fn escape(heap: Global, bytes: &[u8]) -> Result<String, AllocError>
     ensures value { IfOk result (λ t. string_bytes t ≡ escaped bytes.now) }
     ensures apart { Unambiguous }
 {
-    let mut text = String::new(heap);
-    for b in bytes {
-        push_byte(&mut text, *b)?;
-    }
-    Ok(text)
+    format!(in heap; "{}", Escaped(bytes))
 }
 
 /// The byte at an index, or 0 behind the end.
