@@ -92,7 +92,7 @@ module _ (rows : List PathRow) (text : List ℕ) (w : Sight) (p : ℕ) (work sta
         },
       )
 
-  module _ (k : Packet) (s : Works read w p work (shown work₁ (Ok k)) w₁ work₁) where
+  module _ (k : Packet ℕ) (s : Works read w p work (shown work₁ (Ok k)) w₁ work₁) where
     pub paths_end : (lent after : List PathRow) → rows ≡ lent → after ≡ rows' → k ≡ Flush → (n : ℕ) → n ≡ count
         → ReadsPaths lent text w₀ p (areas work₀ status) (Ok (notes, n)) w₁ (areas work₁ status) after text'
     paths_end lent after re ae e n ne =
@@ -123,7 +123,7 @@ module _ (rows : List PathRow) (text : List ℕ) (w : Sight) (p : ℕ) (work sta
         same : (named : List (List ℕ)) → Keeping named rows text notes rows' count text' → Keeping (named ++ []) rows text notes rows' count text'
         same named was = subst (λ ps. Keeping ps rows text notes rows' count text') (sym (append-nil named)) was
 
-        passed_over : (x : Packet) → k ≡ x → LinesLeft rows text w₁ p (areas work₁ status) notes rows' count text' w₀ (areas work₀ status)
+        passed_over : (x : Packet ℕ) → k ≡ x → LinesLeft rows text w₁ p (areas work₁ status) notes rows' count text' w₀ (areas work₀ status)
         passed_over Flush e = absurd (not-flush e)
         passed_over Delimiter e = paths_more delimiter refl refl (talk_is (ap (λ x. shown work₁ (Ok x)) (sym e)) (s status)) notes rows' count text' same
         passed_over ResponseEnd e = paths_more response_end refl refl (talk_is (ap (λ x. shown work₁ (Ok x)) (sym e)) (s status)) notes rows' count text' same

@@ -76,14 +76,14 @@ header_taken (a ∷ b ∷ c ∷ []) h = absurd (omega arith)
 header_taken (a ∷ b ∷ c ∷ d ∷ bytes) h = refl
 
 -- a packet that is no data packet has no payload
-plain : (k : Packet) → ((n : ℕ) → k ≡ Data n → ⊥) → payload_length k ≡ 0
+plain : (k : Packet ℕ) → ((n : ℕ) → k ≡ Data n → ⊥) → payload_length k ≡ 0
 plain Flush h = refl
 plain Delimiter h = refl
 plain ResponseEnd h = refl
 plain (Data n) h = absurd (h n refl)
 
 -- a payload laid over the front of an area is the one that was given
-payload_laid : (k : Packet) (bytes area : List ℕ) → payload_length k ≤ length bytes → with_payload k (over (take (payload_length k) bytes) area) ≡ with_payload k bytes
+payload_laid : (k : Packet ℕ) (bytes area : List ℕ) → payload_length k ≤ length bytes → with_payload k (over (take (payload_length k) bytes) area) ≡ with_payload k bytes
 payload_laid Flush bytes area h = refl
 payload_laid Delimiter bytes area h = refl
 payload_laid ResponseEnd bytes area h = refl
@@ -101,7 +101,7 @@ module _ (w : World) (p : ℕ) (area : List ℕ) (w₁ : World) (head : List ℕ
   no_payload : area ≡ over (drop 4 (take 4 (waits w p))) area
   no_payload = ap (λ xs. over xs area) (sym (drop_all 4 (take 4 (waits w p)) (simp length-take (omega arith))))
 
-  pub read_none : (f : Fault) (r : Result Packet LineFault) → Filled w p zeros (Err f) w₁ head → r ≡ Err (Host f) → Works read (sight g w) p area (shown area r) (sight g₁ w₁) area
+  pub read_none : (f : Fault) (r : Result (Packet ℕ) LineFault) → Filled w p zeros (Err f) w₁ head → r ≡ Err (Host f) → Works read (sight g w) p area (shown area r) (sight g₁ w₁) area
   read_none f r h e =
       let t = fill_err _ _ _ h.answer in
       let few : length (waits w p) < 4 = leb-false 4 (length (waits w p)) t.0 in
@@ -115,12 +115,12 @@ module _ (w : World) (p : ℕ) (area : List ℕ) (w₁ : World) (head : List ℕ
     header_is =
         ap header (h.laid ∙ ap (λ n. take 4 (waits w p) ++ drop n zeros) (length-take-le 4 (waits w p) enough) ∙ append-nil (take 4 (waits w p))) ∙ header_taken (waits w p) enough
 
-    pub read_bad : (e : Error) (n : ℕ) (r : Result Packet LineFault) → Err n ≡ header head → r ≡ Err (of_packet e) → Works read (sight g w) p area (shown area r) (sight g₁ w₁) area
+    pub read_bad : (e : Error) (n : ℕ) (r : Result (Packet ℕ) LineFault) → Err n ≡ header head → r ≡ Err (of_packet e) → Works read (sight g w) p area (shown area r) (sight g₁ w₁) area
     read_bad BadHeader n r k is =
         heard_works w p area w₁ area g g₁ 4 h.after logs no_payload (shown area r) (bad (take 4 (waits w p)) (drop 4 (waits w p))) (front_bad (waits w p) n enough (sym (k ∙ header_is)))
         (λ later past. ap (λ x. ends x (wire (less 4 (process w p)) later (gave (take 4 (waits w p)) ∷ past))) (sym (ap (shown area) is)))
 
-    module _ (k : Packet) (is : Ok k ≡ header head) where
+    module _ (k : Packet ℕ) (is : Ok k ≡ header head) where
       -- a packet that is whole
       whole_works : (w₂ : World) (area₂ : List ℕ) (g₂ : Log) → 4 + payload_length k ≤ length (waits w p) → w₂ ≡ taken w p (4 + payload_length k) → Brought p g (take (4 + payload_length k) (waits w p)) g₂
           → area₂ ≡ over (take (payload_length k) (drop 4 (waits w p))) area → Works read (sight g w) p area (shown area₂ (Ok k)) (sight g₂ w₂) area₂
@@ -174,7 +174,7 @@ module _ (w : World) (p : ℕ) (area : List ℕ) (w₁ : World) (head : List ℕ
           let all : length (take (n - 0) area) ≤ length (waits w₁ p) = leb-true _ _ (fill_ok _ _ _ f.answer) in
           whole_works (Data n) is w₂ _ g₂ (omega (arith, all, part_length, length_waits, enough)) (data_after f) brought_all (data_laid f)
 
-      pub read_cut : (e : Fault) (r : Result Packet LineFault) → Filled w₁ p (take (n - 0) area) (Err e) w₂ part → r ≡ Err (Host e)
+      pub read_cut : (e : Fault) (r : Result (Packet ℕ) LineFault) → Filled w₁ p (take (n - 0) area) (Err e) w₂ part → r ≡ Err (Host e)
           → Works read (sight g w) p area (shown (part ++ post_of 0 (n - 0) area) r) (sight g₂ w₂) (part ++ post_of 0 (n - 0) area)
       read_cut e r f told =
           let t = fill_err _ _ _ f.answer in

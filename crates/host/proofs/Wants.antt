@@ -13,13 +13,13 @@ use Rattle.host.specs.Talk.{areas, texted, text_in, wanted, read, read_content, 
 use Rattle.host.proofs.Talking.{talk_none, talk_then, talk_stop, talk_is}
 
 -- what a packet answers where content is wanted
-abbrev pub content_answer : Packet → Result (Option ℕ) LineFault
+abbrev pub content_answer : Packet ℕ → Result (Option ℕ) LineFault
 content_answer Flush = Ok None
 content_answer Delimiter = Err Marker
 content_answer ResponseEnd = Err Marker
 content_answer (Data n) = Ok (Some n)
 
-pub marker_answer : (k : Packet) → (k ≡ Flush → ⊥) → ((n : ℕ) → k ≡ Data n → ⊥) → Err Marker ≡ content_answer k
+pub marker_answer : (k : Packet ℕ) → (k ≡ Flush → ⊥) → ((n : ℕ) → k ≡ Data n → ⊥) → Err Marker ≡ content_answer k
 marker_answer Flush h l = absurd (h refl)
 marker_answer Delimiter h l = refl
 marker_answer ResponseEnd h l = refl
@@ -29,13 +29,13 @@ module _ (w : Sight) (p : ℕ) (area : List ℕ) (w₁ : Sight) (area₁ : List 
   pub content_fault : (e : LineFault) (r : Result (Option ℕ) LineFault) → Works read w p area (Err e) w₁ area₁ → r ≡ Err e → Works read_content w p area (shown_part area₁ r) w₁ area₁
   content_fault e r s is status = talk_is (ap (shown_part area₁) is) (talk_stop wanted e (s status))
 
-  content_by : (k : Packet) → Works read w p area (shown area₁ (Ok k)) w₁ area₁ → Works read_content w p area (shown_part area₁ (content_answer k)) w₁ area₁
+  content_by : (k : Packet ℕ) → Works read w p area (shown area₁ (Ok k)) w₁ area₁ → Works read_content w p area (shown_part area₁ (content_answer k)) w₁ area₁
   content_by Flush s status = talk_then wanted flush (s status) (talk_none (Ok None) w₁ p (areas area₁ status))
   content_by Delimiter s status = talk_then wanted delimiter (s status) (talk_none (Err Marker) w₁ p (areas area₁ status))
   content_by ResponseEnd s status = talk_then wanted response_end (s status) (talk_none (Err Marker) w₁ p (areas area₁ status))
   content_by (Data n) s status = talk_then wanted (line (take n area₁)) (s status) (talk_none (Ok (Some (take n area₁))) w₁ p (areas area₁ status))
 
-  pub content_works : (k : Packet) (r : Result (Option ℕ) LineFault) → Works read w p area (shown area₁ (Ok k)) w₁ area₁ → r ≡ content_answer k
+  pub content_works : (k : Packet ℕ) (r : Result (Option ℕ) LineFault) → Works read w p area (shown area₁ (Ok k)) w₁ area₁ → r ≡ content_answer k
       → Works read_content w p area (shown_part area₁ r) w₁ area₁
   content_works k r s is status = talk_is (ap (shown_part area₁) is) (content_by k s status)
 

@@ -143,7 +143,7 @@ abbrev pub read_text : Wire → Got (Option (List ℕ))
 read_text v = then (read_content v) text_in
 
 -- a reader's answer whose payload lies at the front of an area
-abbrev pub shown : List ℕ → Result Packet LineFault → Result Pkt LineFault
+abbrev pub shown : List ℕ → Result (Packet ℕ) LineFault → Result Pkt LineFault
 shown area r = told (λ k. with_payload k area) (λ f. f) r
 
 -- the same of an answer that gives a length, or none at a flush

@@ -14,7 +14,7 @@ use crate::peer::Peer;
 use packetline::decode::hex_prefix;
 use packetline::encode::MAX_DATA_LEN;
 use packetline::inner::{lay_data, lay_flush, lay_pair};
-use packetline::packet::Packet;
+use packetline::packet::{Header, Packet};
 use packetline::text::text;
 
 /// The length of the longest packet, and the least length of an area that is lent for packets.
@@ -35,7 +35,7 @@ fn fill<H: Host>(host: &mut H, process: usize, area: &mut [u8]) -> Result<(), Fa
 
 impl<H: Host> Peer<'_, H> {
     /// The next packet; its payload lies at the front of the work area.
-    pub fn read_packet(&mut self) -> Result<Packet, LineFault>
+    pub fn read_packet(&mut self) -> Result<Header, LineFault>
         ensures bound { IfOk result (λ k. payload_length k ≤ 65516) }
         ensures goes { Does H.log H.world read self.old (shown self.new.work.now result) self.new }
         ensures stream { Streamed (waits (H.world self.old.host.now) self.old.process) (shown self.new.work.now result) (waits (H.world self.new.host.now) self.old.process) }

@@ -10,10 +10,10 @@ use crate::call::{AreaError, AreaTooShort, CallError};
 use crate::host::Host;
 use crate::inner::MAX_LINE_LEN;
 use crate::peer::Peer;
-use packetline::packet::Packet;
+use packetline::packet::Header;
 
 /// The next packet of a process; its payload lies at the front of `area`, which has room for the longest packet.
-pub fn read<H: Host>(host: &mut H, process: usize, area: &mut [u8]) -> Result<Packet, AreaError>
+pub fn read<H: Host>(host: &mut H, process: usize, area: &mut [u8]) -> Result<Header, AreaError>
     ensures bound { IfOk result (λ k. payload_length k ≤ 65516) }
     ensures goes { Checked (room area.old) (λ x. Works read_one (sight (H.log host.old) (H.world host.old)) process area.old x (sight (H.log host.new) (H.world host.new)) area.new × Streamed (waits (H.world host.old) process) x (waits (H.world host.new) process)) ((host.new ≡ host.old) × (area.new ≡ area.old)) (told (λ k. with_payload k area.new) (λ e. e) result) }
 {

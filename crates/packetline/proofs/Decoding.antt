@@ -1,10 +1,10 @@
 -- A whole byte string, packet by packet.
-use Rattle.std.proofs.Common.{◌≡◌, ℕ, zero, suc, ◌+◌, ◌-◌, ◌<◌, ◌≤◌, true, List, [], ◌∷◌, ◌++◌, length, drop, Some, sym, refl, ap, ◌∙◌, subst, add_assoc, zero-add, arith}
+use Rattle.std.proofs.Common.{◌≡◌, ℕ, zero, suc, ◌+◌, ◌-◌, ◌<◌, ◌≤◌, true, List, [], ◌∷◌, ◌++◌, length, drop, Some, Bor, sym, refl, ap, ◌∙◌, subst, add_assoc, zero-add, arith}
 use Rattle.std.proofs.lemmas.List.{length-append, append_assoc, append-nil, drop_at}
 use Rattle.std.proofs.lemmas.Bool.{and_parts}
 use Rattle.packetline.specs.declared.decode.Tally.{Tally}
-use Rattle.packetline.specs.declared.packet.PacketLineRef.{PacketLineRef}
-use Rattle.packetline.specs.declared.packet.PacketLineRef.TheVariants.{Data, Flush, Delimiter, ResponseEnd}
+use Rattle.packetline.specs.declared.packet.Packet.{Packet}
+use Rattle.packetline.specs.declared.packet.Packet.TheVariants.{Data, Flush, Delimiter, ResponseEnd}
 use Rattle.packetline.specs.Reads.{pkt, Next, Counted}
 use Rattle.packetline.specs.Packets.{Pkt, flush, delimiter, response_end, line, sendable, packet, lowered, Front, whole, bad, short, front, Decoded, and_more, decode_in, decode, flush_one, flushes_of, packets, all_sendable, DecodesSent}
 use Rattle.packetline.proofs.Fronts.{front_none}
@@ -140,19 +140,19 @@ decodes_sent bytes ps rest s e = let d = in_order ps rest s in (ap (λ xs. (deco
         let whole_is = ap decode regroup ∙ d in
         (ap (λ (x : Decoded). x.packets) whole_is ∙ ap (λ ys. q ∷ ys) i.0, ap (λ (x : Decoded). x.left) whole_is ∙ i.1)
 
-pub no_flush : (x : PacketLineRef) → (x ≡ Flush → ⊥) → flush_one (pkt x) ≡ 0
+pub no_flush : (x : Packet (Bor (List ℕ))) → (x ≡ Flush → ⊥) → flush_one (pkt x) ≡ 0
 no_flush (Data payload) h = refl
 no_flush Flush h = absurd (h refl)
 no_flush Delimiter h = refl
 no_flush ResponseEnd h = refl
 
 -- the same of one step of the iteration
-pub next_more : (bytes : List ℕ) (packets flushes flushes' : ℕ) (rest : List ℕ) (x : PacketLineRef) (rest' : List ℕ) → SoFar bytes packets flushes rest
+pub next_more : (bytes : List ℕ) (packets flushes flushes' : ℕ) (rest : List ℕ) (x : Packet (Bor (List ℕ))) (rest' : List ℕ) → SoFar bytes packets flushes rest
     → Next rest (Some x) rest' → flushes + flush_one (pkt x) ≡ flushes' → SoFar bytes (packets + 1) flushes' rest'
 next_more bytes packets flushes flushes' rest x rest' s n e =
     subst (λ m. SoFar bytes (packets + 1) m rest') e (one_more bytes packets flushes rest (pkt x) n.0 rest' s n.1)
 
-pub next_fits : (bytes : List ℕ) (packets flushes : ℕ) (rest : List ℕ) (x : PacketLineRef) (rest' : List ℕ) → SoFar bytes packets flushes rest
+pub next_fits : (bytes : List ℕ) (packets flushes : ℕ) (rest : List ℕ) (x : Packet (Bor (List ℕ))) (rest' : List ℕ) → SoFar bytes packets flushes rest
     → Next rest (Some x) rest' → (packets + 1 ≤ length bytes) × (flushes + 1 ≤ length bytes)
 next_fits bytes packets flushes rest x rest' s n =
     let h = few bytes packets flushes rest (pkt x) n.0 rest' s n.1 in

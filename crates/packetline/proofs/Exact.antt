@@ -10,46 +10,46 @@ use Rattle.packetline.proofs.Digits.{digits_read, digits_spell, digits_lower}
 use Rattle.packetline.proofs.Fronts.{front_none, front_some, front_whole}
 
 -- the length that a header gives of a packet
-abbrev header_of : Packet → ℕ
+abbrev header_of : Packet ℕ → ℕ
 header_of Flush = 0
 header_of Delimiter = 1
 header_of ResponseEnd = 2
 header_of (Data n) = n + 4
 
-abbrev Lawful : Packet → Type 0
+abbrev Lawful : Packet ℕ → Type 0
 Lawful Flush = Unit {0}
 Lawful Delimiter = Unit {0}
 Lawful ResponseEnd = Unit {0}
 Lawful (Data n) = (1 ≤ n) × (n ≤ 65516)
 
-announced_is : (n : ℕ) (k : Packet) → announced n ≡ Ok k → (n ≡ header_of k) × Lawful k
+announced_is : (n : ℕ) (k : Packet ℕ) → announced n ≡ Ok k → (n ≡ header_of k) × Lawful k
 announced_is n Flush e = (grind (arith, nat_tests), tt)
 announced_is n Delimiter e = (grind (arith, nat_tests), tt)
 announced_is n ResponseEnd e = (grind (arith, nat_tests), tt)
 announced_is n (Data m) e = (grind (arith, nat_tests), (grind (arith, nat_tests), grind (arith, nat_tests)))
 
-announces : (k : Packet) → Lawful k → announced (header_of k) ≡ Ok k
+announces : (k : Packet ℕ) → Lawful k → announced (header_of k) ≡ Ok k
 announces Flush l = refl
 announces Delimiter l = refl
 announces ResponseEnd l = refl
 announces (Data m) l = grind (arith, nat_tests)
 
-no_number : (n : ℕ) (k : Packet) → ◌≡◌ {A = Result Packet ℕ} (Err n) (Ok k) → ⊥
+no_number : (n : ℕ) (k : Packet ℕ) → ◌≡◌ {A = Result (Packet ℕ) ℕ} (Err n) (Ok k) → ⊥
 no_number n k e = let z : ◌≡◌ {A = ℕ} 0 1 = cc in omega arith
 
 -- a header that is read has a number
-abbrev Says : List ℕ → Packet → Type 0
+abbrev Says : List ℕ → Packet ℕ → Type 0
 Says bytes k = (n : ℕ) × (number bytes ≡ Some n) × (announced n ≡ Ok k)
 
-says_in : (bytes : List ℕ) (k : Packet) (o : Option ℕ) → number bytes ≡ o → heading o ≡ Ok k → Says bytes k
+says_in : (bytes : List ℕ) (k : Packet ℕ) (o : Option ℕ) → number bytes ≡ o → heading o ≡ Ok k → Says bytes k
 says_in bytes k (Some n) e h = (n, e, h)
 says_in bytes k None e h = absurd (no_number 20 k h)
 
-says : (bytes : List ℕ) (k : Packet) → header bytes ≡ Ok k → Says bytes k
+says : (bytes : List ℕ) (k : Packet ℕ) → header bytes ≡ Ok k → Says bytes k
 says bytes k h = says_in bytes k (number bytes) refl h
 
 -- a packet that was read, in lower case, is the packet that is sent
-spelt_out : (k : Packet) (bytes : List ℕ) → Lawful k → payload_length k ≤ length bytes
+spelt_out : (k : Packet ℕ) (bytes : List ℕ) → Lawful k → payload_length k ≤ length bytes
     → (sendable (with_payload k bytes) ≡ true) × (digits (header_of k) ++ take (payload_length k) bytes ≡ packet (with_payload k bytes))
 spelt_out Flush bytes l h = (refl, refl)
 spelt_out Delimiter bytes l h = (refl, refl)
@@ -78,7 +78,7 @@ module _ (bytes : List ℕ) (p : Pkt) (taken rest : List ℕ) where
   bad_front : (xs ys : List ℕ) → bad xs ys ≡ whole p taken rest → ⊥
   bad_front xs ys e = let z : ◌≡◌ {A = ℕ} 0 1 = cc in omega arith
 
-  only_kind : (k : Packet) → Says bytes k → 4 + payload_length k ≤ length bytes
+  only_kind : (k : Packet ℕ) → Says bytes k → 4 + payload_length k ≤ length bytes
       → whole (with_payload k (drop 4 bytes)) (take (4 + payload_length k) bytes) (drop (4 + payload_length k) bytes) ≡ whole p taken rest → Sent
   only_kind k s h e =
       let a = announced_is s.0 k s.2 in
@@ -94,12 +94,12 @@ module _ (bytes : List ℕ) (p : Pkt) (taken rest : List ℕ) where
         cc,
       )
 
-  only_fit : (k : Packet) (b : Bool) → leb (4 + payload_length k) (length bytes) ≡ b → Says bytes k
+  only_fit : (k : Packet ℕ) (b : Bool) → leb (4 + payload_length k) (length bytes) ≡ b → Says bytes k
       → cond b (whole (with_payload k (drop 4 bytes)) (take (4 + payload_length k) bytes) (drop (4 + payload_length k) bytes)) short ≡ whole p taken rest → Sent
   only_fit k true l s e = only_kind k s (leb-true _ _ l) e
   only_fit k false l s e = absurd (other_front e)
 
-  only_header : (r : Result Packet ℕ) → header bytes ≡ r → fronted r bytes ≡ whole p taken rest → Sent
+  only_header : (r : Result (Packet ℕ) ℕ) → header bytes ≡ r → fronted r bytes ≡ whole p taken rest → Sent
   only_header (Ok k) h e = only_fit k (leb (4 + payload_length k) (length bytes)) refl (says bytes k h) e
   only_header (Err n) h e = absurd (bad_front _ _ e)
 
@@ -109,7 +109,7 @@ module _ (bytes : List ℕ) (p : Pkt) (taken rest : List ℕ) where
       (λ (h : 4 ≤ length bytes). only_header (header bytes) refl (sym (front_some bytes h) ∙ e)) (cases_lt (length bytes) 4)
 
 -- the header and the payload of a packet that is sent
-abbrev kind : Pkt → Packet
+abbrev kind : Pkt → Packet ℕ
 kind flush = Flush
 kind delimiter = Delimiter
 kind response_end = ResponseEnd
@@ -127,7 +127,7 @@ sent_lawful delimiter s = tt
 sent_lawful response_end s = tt
 sent_lawful (line l) s = let h = and_parts (leb 1 (length l)) (leb (length l) 65516) s in (leb-true 1 _ h.0, leb-true _ 65516 h.1)
 
-header_small : (k : Packet) → Lawful k → header_of k < 65536
+header_small : (k : Packet ℕ) → Lawful k → header_of k < 65536
 header_small Flush l = omega arith
 header_small Delimiter l = omega arith
 header_small ResponseEnd l = omega arith

@@ -23,26 +23,26 @@ module _ (bytes : List ℕ) where
   pub front_bad : (n : ℕ) → 4 ≤ length bytes → header bytes ≡ Err n → front bytes ≡ bad (take 4 bytes) (drop 4 bytes)
   front_bad n h e = front_some h ∙ ap (λ r. fronted r bytes) e
 
-  pub front_cut : (k : Packet) → 4 ≤ length bytes → header bytes ≡ Ok k → length bytes < 4 + payload_length k → front bytes ≡ short
+  pub front_cut : (k : Packet ℕ) → 4 ≤ length bytes → header bytes ≡ Ok k → length bytes < 4 + payload_length k → front bytes ≡ short
   front_cut k h e l = front_some h ∙ ap (λ r. fronted r bytes) e ∙ cond-false (leb (4 + payload_length k) (length bytes)) _ _ (lt-leb _ _ l)
 
-  pub front_whole : (k : Packet) → header bytes ≡ Ok k → 4 + payload_length k ≤ length bytes
+  pub front_whole : (k : Packet ℕ) → header bytes ≡ Ok k → 4 + payload_length k ≤ length bytes
       → front bytes ≡ whole (with_payload k (drop 4 bytes)) (take (4 + payload_length k) bytes) (drop (4 + payload_length k) bytes)
   front_whole k e l =
       front_some (omega arith) ∙ ap (λ r. fronted r bytes) e ∙ cond-true (leb (4 + payload_length k) (length bytes)) _ _ (le-leb _ _ l)
 
   -- what the front is, where four bytes at it were read as a header
   module _ (four rest : List ℕ) (parts : (four ≡ take 4 bytes) × (rest ≡ drop 4 bytes) × (length rest + 4 ≡ length bytes)) where
-    four_header : {r : Result Packet ℕ} → r ≡ header four → header bytes ≡ r
+    four_header : {r : Result (Packet ℕ) ℕ} → r ≡ header four → header bytes ≡ r
     four_header e = sym (e ∙ ap header parts.0 ∙ header_four bytes)
 
     pub read_bad : (n : ℕ) → Err n ≡ header four → fronted (Err n) bytes ≡ front bytes
     read_bad n e = sym (front_bad n (omega (arith, parts.2)) (four_header e))
 
-    pub read_cut : (k : Packet) → Ok k ≡ header four → length bytes < 4 + payload_length k → short ≡ front bytes
+    pub read_cut : (k : Packet ℕ) → Ok k ≡ header four → length bytes < 4 + payload_length k → short ≡ front bytes
     read_cut k e l = sym (front_cut k (omega (arith, parts.2)) (four_header e) l)
 
-    pub read_whole : (k : Packet) (n : ℕ) (p : Pkt) → Ok k ≡ header four → n ≡ 4 + payload_length k → n ≤ length bytes → p ≡ with_payload k rest
+    pub read_whole : (k : Packet ℕ) (n : ℕ) (p : Pkt) → Ok k ≡ header four → n ≡ 4 + payload_length k → n ≤ length bytes → p ≡ with_payload k rest
         → whole p (take n bytes) (drop n bytes) ≡ front bytes
     read_whole k n p e is l q =
         let f = front_whole k (four_header e) (omega arith) in

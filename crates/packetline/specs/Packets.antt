@@ -23,17 +23,17 @@ abbrev pub number : List ℕ → Option ℕ
 number bytes = of_digits (digit (slice_index bytes 0)) (digit (slice_index bytes 1)) (digit (slice_index bytes 2)) (digit (slice_index bytes 3))
 
 -- what a length says: 0 is a flush, 1 and 2 are the markers, 5 to 65,520 announce a payload; any other is refusal 20
-abbrev pub announced : ℕ → Result Packet ℕ
+abbrev pub announced : ℕ → Result (Packet ℕ) ℕ
 announced n =
     cond (n == 0) (Ok Flush) (cond (n == 1) (Ok Delimiter) (cond (n == 2) (Ok ResponseEnd)
     (cond (nat_le 5 n && nat_le n 65520) (Ok (Data (n - 4))) (Err 20))))
 
 -- what the first four bytes say as a header
-abbrev pub heading : Option ℕ → Result Packet ℕ
+abbrev pub heading : Option ℕ → Result (Packet ℕ) ℕ
 heading (Some n) = announced n
 heading None = Err 20
 
-abbrev pub header : List ℕ → Result Packet ℕ
+abbrev pub header : List ℕ → Result (Packet ℕ) ℕ
 header bytes = heading (number bytes)
 
 -- a digit in lower case
@@ -76,14 +76,14 @@ line_pkt text = line text
 -- Reading
 
 -- how many bytes of payload follow a header
-abbrev pub payload_length : Packet → ℕ
+abbrev pub payload_length : Packet ℕ → ℕ
 payload_length Flush = 0
 payload_length Delimiter = 0
 payload_length ResponseEnd = 0
 payload_length (Data n) = n
 
 -- the packet that a header announces, with its payload at the front of bytes
-abbrev pub with_payload : Packet → List ℕ → Pkt
+abbrev pub with_payload : Packet ℕ → List ℕ → Pkt
 with_payload Flush bytes = flush
 with_payload Delimiter bytes = delimiter
 with_payload ResponseEnd bytes = response_end
@@ -95,7 +95,7 @@ pub data Front : Type 0 where
   bad : List ℕ → List ℕ → Front
   short : Front
 
-abbrev pub fronted : Result Packet ℕ → List ℕ → Front
+abbrev pub fronted : Result (Packet ℕ) ℕ → List ℕ → Front
 fronted (Err _) bytes = bad (take 4 bytes) (drop 4 bytes)
 fronted (Ok k) bytes =
     cond (nat_le (4 + payload_length k) (length bytes))

@@ -1,18 +1,19 @@
 -- What the readers of packets answer.
 use Rattle.std.specs.Prelude.{◌≡◌, ℕ, ◌≤◌, List, length, take, drop, Some, None, Ok, Err, Option, Result, ◌≢◌}
+use Rattle.std.specs.Borrow.{Bor}
 use Rattle.packetline.specs.declared.decode.Error.{Error}
 use Rattle.packetline.specs.declared.decode.Error.TheVariants.{BadHeader}
 use Rattle.packetline.specs.declared.decode.Complete.{Complete}
 use Rattle.packetline.specs.declared.decode.Tally.{Tally}
-use Rattle.packetline.specs.declared.packet.PacketLineRef.{PacketLineRef}
-use Rattle.packetline.specs.declared.packet.PacketLineRef.TheVariants.{Data, Flush, Delimiter, ResponseEnd}
+use Rattle.packetline.specs.declared.packet.Packet.{Packet}
+use Rattle.packetline.specs.declared.packet.Packet.TheVariants.{Data, Flush, Delimiter, ResponseEnd}
 use Rattle.packetline.specs.Packets.{Pkt, flush, delimiter, response_end, line, Front, whole, short, fronted, front, decode, flushes}
 
 abbrev pub decode_number : Error → ℕ
 decode_number BadHeader = 20
 
 -- a packet as it was read
-abbrev pub pkt : PacketLineRef → Pkt
+abbrev pub pkt : Packet (Bor (List ℕ)) → Pkt
 pkt (Data payload) = line payload.now
 pkt Flush = flush
 pkt Delimiter = delimiter
@@ -31,7 +32,7 @@ Within (Ok None) bytes = Unit {0}
 Within (Err e) bytes = 4 ≤ length bytes
 
 -- one packet of an iteration: the packet at the front and what follows it, or none where no whole packet stands there
-abbrev pub Next : List ℕ → Option PacketLineRef → List ℕ → Type 0
+abbrev pub Next : List ℕ → Option (Packet (Bor (List ℕ))) → List ℕ → Type 0
 Next bytes None bytes' = (bytes' ≡ bytes) × ((p : Pkt) (taken rest : List ℕ) → front bytes ≢ whole p taken rest)
 Next bytes (Some x) bytes' = (taken : List ℕ) × (front bytes ≡ whole (pkt x) taken bytes')
 

@@ -5,7 +5,7 @@ ghost use Rattle.packetline.specs.Packets.{digit, number, header as heading, fro
 ghost use Rattle.packetline.specs.Reads.{decode_number, front_told, Within, Next, Counted};
 ghost use Rattle.std.specs.Iterator.{at_most};
 
-use crate::packet::{Packet, PacketLineRef};
+use crate::packet::{Header, Packet, PacketLineRef};
 use slices::refusal::Numbered;
 
 /// Why bytes are no packet.
@@ -51,7 +51,7 @@ fn hex_number(four_bytes: &[u8; 4]) -> Option<u32>
 }
 
 /// What four bytes say as a header.
-pub fn hex_prefix(four_bytes: &[u8; 4]) -> Result<Packet, Error>
+pub fn hex_prefix(four_bytes: &[u8; 4]) -> Result<Header, Error>
     ensures value { told (λ k. k) decode_number result ≡ heading four_bytes.now }
     ensures bound { IfOk result (λ k. payload_length k ≤ 65516) }
 {
@@ -144,7 +144,7 @@ pub fn count(bytes: &[u8]) -> Tally
     // `for` over `by_ref()` was tried: nothing ties what `lines` has left to the loop's last iterator.
     while let Some(line) = lines.next() {
         packets += 1;
-        if let PacketLineRef::Flush = line {
+        if let Packet::Flush = line {
             flushes += 1;
         }
     }

@@ -3,26 +3,22 @@ ghost use Rattle.std.specs.Prelude.{◌≡◌};
 ghost use Rattle.packetline.specs.Packets.{payload_length, with_payload};
 ghost use Rattle.packetline.specs.Reads.{pkt};
 
-/// What a header announces; of a data packet, how many bytes of payload follow.
+/// A packet, and of a data packet what is known of its payload.
 #[derive(Clone, Copy, PartialEq, Eq, Debug)]
-pub enum Packet {
+pub enum Packet<P> {
     Flush,
     Delimiter,
     ResponseEnd,
-    Data(usize),
+    Data(P),
 }
 
-// Not one generic type: a header and a packet are two things of the format, and gix-packetline has the second under this name.
+/// What a header announces; of a data packet, how many bytes of payload follow.
+pub type Header = Packet<usize>;
+
 /// A packet with its payload, borrowed from the bytes that it was read from.
-#[derive(Clone, Copy)]
-pub enum PacketLineRef<'a> {
-    Data(&'a [u8]),
-    Flush,
-    Delimiter,
-    ResponseEnd,
-}
+pub type PacketLineRef<'a> = Packet<&'a [u8]>;
 
-impl Packet {
+impl Packet<usize> {
     /// How many bytes of payload follow the header.
     pub(crate) fn payload_length(self) -> usize
         ensures { result ≡ payload_length self }
@@ -38,10 +34,10 @@ impl Packet {
         ensures { pkt result ≡ with_payload self bytes.now }
     {
         match self {
-            Packet::Flush => PacketLineRef::Flush,
-            Packet::Delimiter => PacketLineRef::Delimiter,
-            Packet::ResponseEnd => PacketLineRef::ResponseEnd,
-            Packet::Data(n) => PacketLineRef::Data(&bytes[0..n.min(bytes.len())]),
+            Packet::Flush => Packet::Flush,
+            Packet::Delimiter => Packet::Delimiter,
+            Packet::ResponseEnd => Packet::ResponseEnd,
+            Packet::Data(n) => Packet::Data(&bytes[0..n.min(bytes.len())]),
         }
     }
 }

@@ -84,7 +84,7 @@ PartedAt ws (whole p b rest) = Unit {0}
 PartedAt ws (bad b rest) = ws ≡ b ++ rest
 PartedAt ws short = Unit {0}
 
-parted_by : (ws : List ℕ) (k : Result Packet ℕ) → PartedAt ws (fronted k ws)
+parted_by : (ws : List ℕ) (k : Result (Packet ℕ) ℕ) → PartedAt ws (fronted k ws)
 parted_by ws (Err n) = sym (take-append-drop 4 ws)
 parted_by ws (Ok k) = cond_both (leb (4 + payload_length k) (length ws)) _ _ (PartedAt ws) (λ _. tt) (λ _. tt)
 
