@@ -1,8 +1,16 @@
 -- The worked cases, one table over the definitions.
 use Rattle.std.specs.Prelude.{◌≡◌, ℕ, true, false, List, length, take, Some, None, Err, codes}
-use Rattle.packetline.specs.Packets.{header, line, framable, packet, line_pkt}
+use Rattle.packetline.specs.Packets.{header, Pkt, line, framable, packet, line_pkt}
 use Rattle.packetline.specs.Text.{number_of}
 use Rattle.packetline.specs.Metadata.{pair_of}
+use Rattle.process.specs.declared.status.Status.{Status}
+use Rattle.process.specs.declared.status.Status.TheVariants.{Previous, Unset}
+use Rattle.process.specs.Given.{ReadsAs}
+use Rattle.process.specs.Statuses.{named, StatusLines}
+
+-- bytes that decode to lines that tell a status
+abbrev pub Tell : List ℕ → Status → Type 0
+Tell bytes s = (ps : List Pkt) × ReadsAs bytes ps × StatusLines ps s
 
 pub record Worked : Type 0 where
   -- `a` frames as `0005a`
@@ -20,3 +28,7 @@ pub record Worked : Type 0 where
   pub two_to_the_64th : number_of (codes "18446744073709551616") ≡ None
   -- `a=b=c` gives `a` and `b=c`
   pub first_sign : pair_of (codes "a=b=c") ≡ Some (codes "a", codes "b=c")
+  -- a flush alone is Previous; `hello` is Unset; `status=success`, `status=error` is error
+  pub flush_alone : Tell (codes "0000") Previous
+  pub hello : Tell (codes "0009hello0000") Unset
+  pub last_wins : Tell (codes "0012status=success0010status=error0000") (named (codes "error"))

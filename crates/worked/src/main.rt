@@ -3,9 +3,15 @@
 
 ghost use Rattle.worked.specs.Worked.{Worked};
 
+use client::client::Client;
+use host::fault::{Fault, Snag};
+use host::host::Host;
 use packetline::line::Line;
 use packetline::packet::Packet;
 use packetline::{decode, encode, metadata, text};
+use process::capabilities::Capabilities;
+use process::status::Status;
+use scripts::script::{Part, Row, Script};
 use slices::equal::first;
 use slices::name::{Name, OutsideLimits};
 use slices::refusal::Numbered;
@@ -171,6 +177,49 @@ fn rows(rt: &HostRuntime) -> io::Result<()> {
     println!(rt; "5, 6 and 7 into two places: {one} {two} {three}, held {held:?}")
 }
 
+/// A host with one process that gives these bytes, and is then closed.
+fn giving(bytes: &[u8]) -> Option<Script<'_>> {
+    let whole = Part {
+        at: 0,
+        len: bytes.len(),
+    };
+    let row = Row {
+        command: whole,
+        plays: whole,
+        ending: Fault::Closed,
+        allowance: 0,
+        snag: Snag::Broken,
+    };
+    let mut script = Script::new(bytes, &[row]).ok()?;
+    script.start(bytes).ok()?;
+    Some(script)
+}
+
+/// The status that a process tells which gives these bytes.
+fn status(rt: &HostRuntime, bytes: &[u8]) -> io::Result<()> {
+    let name = shown(bytes);
+    let Some(mut host) = giving(bytes) else {
+        return Ok(());
+    };
+    let client = Client {
+        process: 0,
+        version: 2,
+        capabilities: Capabilities::none(),
+    };
+    let mut work: Vec<u8> = vec![in rt.alloc(); b'.'; 65520]?;
+    let mut area = [b'.'; 128];
+    print!(rt; "status of {name}: ")?;
+    match client.read_status(&mut host, &mut work, &mut area) {
+        Ok(Status::Previous) => println!(rt; "previous"),
+        Ok(Status::Unset) => println!(rt; "unset"),
+        Ok(Status::Named(_, len)) => {
+            let said = shown(area.get(0..len).unwrap_or(b"(long)"));
+            println!(rt; "{said}")
+        }
+        Err(e) => print_refusal(rt, e),
+    }
+}
+
 /// The cases of the table.
 fn table(rt: &HostRuntime) -> io::Result<()> {
     frame(rt, b"a", 8)?;
@@ -180,7 +229,10 @@ fn table(rt: &HostRuntime) -> io::Result<()> {
     header(rt, b"0003")?;
     number(rt, b"+2")?;
     number(rt, b"18446744073709551616")?;
-    pair(rt, b"a=b=c")
+    pair(rt, b"a=b=c")?;
+    status(rt, b"0000")?;
+    status(rt, b"0009hello0000")?;
+    status(rt, b"0012status=success0010status=error0000")
 }
 
 /// Packets at their limits.
