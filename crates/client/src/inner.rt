@@ -23,6 +23,7 @@ use process::status::Status;
 use slices::rows::Rows;
 
 /// A command's lines and a flush.
+// Command and metadata stand apart here and below, as the Rust's `invoke` has them.
 fn send_request<H: Host>(
     peer: &mut Peer<'_, H>,
     command: &[u8],
@@ -84,6 +85,7 @@ fn ask_paths<H: Host>(peer: &mut Peer<'_, H>) -> Result<(), LineFault>
     peer.send_flush()
 }
 
+// Rows and text area stand apart here and below, as the caller lends them.
 /// The paths that lines up to the flush name, stored as far as there is space, and how many are stored; markers and other lines are passed over.
 fn read_paths<H: Host>(
     peer: &mut Peer<'_, H>,

@@ -13,6 +13,7 @@ use slices::refusal::Numbered;
 pub struct Listed {
     pub status: Status,
     pub named: usize,
+    // A count: the rows are the caller's, and a slice of them would keep them borrowed.
     pub stored: usize,
 }
 

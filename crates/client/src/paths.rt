@@ -39,6 +39,7 @@ fn path_in(payload: &[u8]) -> Option<&[u8]>
     }
 }
 
+// Rows and text area stand apart here, as the caller lends them.
 /// Stores a path from a place of the text area on, if rows and text area have space; and where the next one goes then.
 fn store(rows: &mut Rows<'_, PathRow>, text: &mut [u8], at: usize, path: &[u8]) -> Option<usize>
     requires { at ≤ length text.old }

@@ -30,25 +30,33 @@ fn client_of(process: usize) -> Client {
 
 /// The names that a process may name, if all are names.
 fn desired(heap: Global, list: &[u8]) -> Result<Vec<Name>, Stopped> {
-    let mut names = Vec::new(heap);
-    for item in &items(heap, list)? {
-        names.push(Name::new(item).map_err(refused)?)?;
-    }
-    Ok(names)
+    items(heap, list)?
+        .iter()
+        .map(|item| Name::new(item).map_err(refused))
+        .try_collect(heap)
 }
 
 /// Those of the names that a process named.
-fn named(heap: Global, capabilities: Capabilities, names: &[Name]) -> Result<String, AllocError> {
-    let mut text = String::new(heap);
-    for (k, name) in names.iter().enumerate() {
-        if capabilities.contains(k) {
-            write!(text, " {}", Escaped(name.as_bytes()))?;
+#[derive(Clone, Copy)]
+struct Named<'a> {
+    capabilities: Capabilities,
+    names: &'a [Name],
+}
+
+impl fmt::Display for Named<'_> {
+    fn fmt<W: fmt::Write>(&self, f: &mut fmt::Formatter<W>) -> fmt::Result {
+        if self.capabilities.mask == 0 {
+            return f.write_str("none");
         }
+        let mut gap = "";
+        for (k, name) in self.names.iter().enumerate() {
+            if self.capabilities.contains(k) {
+                write!(f, "{gap}{}", Escaped(name.as_bytes()))?;
+                gap = " ";
+            }
+        }
+        Ok(())
     }
-    if text.is_empty() {
-        text.push_str(" none")?;
-    }
-    Ok(text)
 }
 
 /// The rows that an exchange sends.
@@ -123,8 +131,11 @@ impl Stage<'_> {
         )
         .map_err(refused)?;
         let version = client.version;
-        let names = named(self.heap, client.capabilities, &names)?;
-        Ok(format!(in self.heap; "version {version}, capabilities{names}")?)
+        let named = Named {
+            capabilities: client.capabilities,
+            names: &names,
+        };
+        Ok(format!(in self.heap; "version {version}, capabilities {named}")?)
     }
 
     /// An exchange, with the metadata that waits.

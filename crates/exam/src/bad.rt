@@ -15,6 +15,7 @@ pub(crate) enum Bad {
     OutsideLimits,
     NoVersions,
     ListTooLarge,
+    // Not a Failure<Bad>: that type is recording's, so what converts to it could not stand here.
     OutOfMemory,
 }
 

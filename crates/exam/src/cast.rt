@@ -83,8 +83,10 @@ impl<'a> Sheet<'a> {
 
     /// Takes what a line says.
     pub(crate) fn add(&mut self, heap: Global, line: &'a [u8]) -> Result<(), Bad> {
-        match read_entry(heap, line)? {
-            Entry::Nothing => {}
+        let Some(entry) = read_entry(heap, line)? else {
+            return Ok(());
+        };
+        match entry {
             Entry::Process {
                 command,
                 ending,

@@ -17,6 +17,7 @@ const SHOWN: usize = 72;
 #[derive(Drop)]
 struct Flow {
     bytes: Vec<u8>,
+    // A place: a slice cannot be kept beside the Vec that it is of.
     read: usize,
     // A flag, since a bad header is told once: the bytes would tell it again with each record.
     bad: bool,
@@ -83,6 +84,7 @@ impl Flow {
         if self.bad {
             return Ok(number);
         }
+        // No iterator: a packet is shown with its header's bytes, and a bad header has a line of its own.
         loop {
             let read = self.read;
             let unread = &self.bytes.as_slice()[read..];
@@ -163,6 +165,7 @@ impl Listing {
         bytes: &[u8],
     ) -> Result<String, AllocError> {
         let mut lines = String::new(heap);
+        // No Display: Direction is recording's, where a sign is a byte of a line.
         let sign = match direction {
             Direction::Sent => ">",
             Direction::Given => "<",

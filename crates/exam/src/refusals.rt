@@ -4,6 +4,7 @@ use std::error::Error;
 use std::fmt;
 
 /// A refusal by its number.
+// By number, since docs/ANSWERS.md gives each its words, and the error types share them; none of the types is exam's.
 #[derive(Clone, Copy)]
 pub(crate) struct Refusal(u8);
 

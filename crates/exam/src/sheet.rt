@@ -23,6 +23,7 @@ pub(crate) enum What {
 }
 
 /// A line of metadata.
+// Not client's `Meta`, which borrows: a sheet's values stand escaped, so what they mean is owned here.
 #[derive(Drop)]
 pub(crate) struct Pair {
     pub(crate) key: Vec<u8>,
@@ -69,10 +70,9 @@ pub(crate) enum Call<'a> {
     Client(usize, ClientCall<'a>),
 }
 
-/// A line of a sheet.
+/// What a line of a sheet says.
 #[derive(Drop)]
 pub(crate) enum Entry<'a> {
-    Nothing,
     Process {
         command: &'a [u8],
         ending: Fault,
@@ -83,7 +83,7 @@ pub(crate) enum Entry<'a> {
     Call(Call<'a>),
 }
 
-/// The part before the first blank, and the part behind it.
+/// The part before the first blank, and the part behind it. Where a part is missing it is empty: a sheet's lines are refused alike for both.
 fn first_word(line: &[u8]) -> (&[u8], &[u8]) {
     let mut parts = line.splitn(2, |b| *b == b' ');
     (parts.next().unwrap_or(b""), parts.next().unwrap_or(b""))
@@ -91,7 +91,9 @@ fn first_word(line: &[u8]) -> (&[u8], &[u8]) {
 
 /// A number that is a whole line.
 fn whole_number(line: &[u8]) -> Result<usize, Bad> {
-    number(line).map(|n| n as usize).ok_or(Bad::Words)
+    number(line)
+        .and_then(|n| usize::try_from(n).ok())
+        .ok_or(Bad::Words)
 }
 
 /// A number that is the first word, and the part behind it.
@@ -142,6 +144,7 @@ fn read_versions(heap: Global, list: &[u8]) -> Result<Vec<u64>, Bad> {
         .try_collect(heap)
 }
 
+// No TryFrom: neither the word's type nor the fault's is exam's.
 fn ending(word: &[u8]) -> Result<Fault, Bad> {
     match word {
         b"closed" => Ok(Fault::Closed),
@@ -151,6 +154,7 @@ fn ending(word: &[u8]) -> Result<Fault, Bad> {
     }
 }
 
+// No TryFrom, as for `ending`.
 fn snag(word: &[u8]) -> Result<Snag, Bad> {
     match word {
         b"broken" => Ok(Snag::Broken),
@@ -254,15 +258,16 @@ fn read_call<'a>(heap: Global, word: &[u8], rest: &'a [u8]) -> Result<Call<'a>, 
     }
 }
 
-/// What a line of a sheet says.
-pub(crate) fn read_entry(heap: Global, line: &[u8]) -> Result<Entry<'_>, Bad> {
+/// What a line says, if it says anything.
+pub(crate) fn read_entry(heap: Global, line: &[u8]) -> Result<Option<Entry<'_>>, Bad> {
     if matches!(line.first(), None | Some(b'#')) {
-        return Ok(Entry::Nothing);
+        return Ok(None);
     }
     let (word, rest) = first_word(line);
-    match word {
-        b"process" => process(rest),
-        b"gives" => Ok(Entry::Gives(read_what(heap, rest)?)),
-        _ => Ok(Entry::Call(read_call(heap, word, rest)?)),
-    }
+    let entry = match word {
+        b"process" => process(rest)?,
+        b"gives" => Entry::Gives(read_what(heap, rest)?),
+        _ => Entry::Call(read_call(heap, word, rest)?),
+    };
+    Ok(Some(entry))
 }

@@ -2,6 +2,7 @@
 use process::capabilities::Capabilities;
 
 /// The version that the process chose, and which of the desired names it named.
+// Not client's `Client`, which names its process as well and is public with these fields.
 #[derive(Clone, Copy)]
 pub struct Agreement {
     pub version: u64,

@@ -13,6 +13,7 @@ use host::host::Host;
 use host::peer::Peer;
 use slices::name::Name;
 
+// Prefix, versions and names stand apart, as the Rust has them and as the promise names each.
 /// Shakes hands with a process: both agree on a version, and the process names which of the desired names it knows.
 pub fn handshake<H: Host>(
     peer: &mut Peer<'_, H>,

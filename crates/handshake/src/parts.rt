@@ -22,6 +22,7 @@ use slices::name::Name;
 fn send_version<H: Host>(peer: &mut Peer<'_, H>, version: u64) -> Result<(), LineFault>
     ensures { Does H.log H.world (send (version_line version)) peer.old result peer.new }
 {
+    // Fixed memory: the library allocates nothing.
     let mut digits = [0u8; 20];
     let at = decimal(version, &mut digits);
     peer.send_pair(b"version", b'=', &digits[at..])

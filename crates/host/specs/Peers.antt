@@ -10,7 +10,7 @@ use Rattle.host.specs.Talk.{Wire, Got, Sight, sight, Works}
 abbrev pub seen : {H : Type 0} → (H → Log) → (H → World) → Peer H → Sight
 seen log world p = sight (log p.host.now) (world p.host.now)
 
--- the same host, process and work area are held
+-- the same host, process and work area are held: asked of each function that takes a peer, since a reference in a struct could be put in another's place
 pub record SameLent {H : Type 0} (p p' : Peer H) : Type 0 where
   pub host : p'.host.ghost_name ≡ p.host.ghost_name
   pub process : p'.process ≡ p.process

@@ -39,6 +39,7 @@ impl Numbered for Fault {
 }
 
 /// What a process answers to a send beyond its allowance.
+// Not a `Fault`: `Closed` is never met on a send.
 #[derive(Clone, Copy)]
 pub enum Snag {
     Broken,

@@ -25,7 +25,7 @@ fn fill<H: Host>(host: &mut H, process: usize, area: &mut [u8]) -> Result<(), Fa
     ensures goes { Filled (H.world host.old) process area.old result (H.world host.new) area.new }
     ensures logs { Brought process (H.log host.old) (take (length area.old) (waits (H.world host.old) process)) (H.log host.new) }
 {
-    // As the library's own `read_exact`: what is counted are bytes that came, and the host says how many.
+    // Not a peer's: a header's four bytes are no work area. As the library's own `read_exact`: what is counted are bytes that came, and the host says how many.
     let mut got = 0;
     while got < area.len() {
         got += host.receive(process, &mut area[got..])?;
@@ -40,6 +40,7 @@ impl<H: Host> Peer<'_, H> {
         ensures goes { Does H.log H.world read self.old (shown self.new.work.now result) self.new }
         ensures stream { Streamed (waits (H.world self.old.host.now) self.old.process) (shown self.new.work.now result) (waits (H.world self.new.host.now) self.old.process) }
     {
+        // Fixed memory: the library allocates nothing.
         let mut head = [0u8; 4];
         fill(self.host, self.process, &mut head)?;
         let packet = hex_prefix(&head)?;
@@ -91,6 +92,7 @@ impl<H: Host> Peer<'_, H> {
     }
 
     /// The packet of a text line, which goes out as given: no LF is added.
+    // A name of the Rust beside `send_packet`: what a line may be is another definition, which here says the same.
     pub fn send_line(&mut self, text: &[u8]) -> Result<(), LineFault>
         requires { sendable (line_pkt text.now) ≡ true }
         ensures { Does H.log H.world (send (line_pkt text.now)) self.old result self.new }

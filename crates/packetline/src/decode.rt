@@ -51,6 +51,7 @@ fn hex_number(four_bytes: &[u8; 4]) -> Option<u32>
 }
 
 /// What four bytes say as a header.
+// The bound stands in the promise of each that reads: users get a length as a plain number.
 pub fn hex_prefix(four_bytes: &[u8; 4]) -> Result<Header, Error>
     ensures value { told (λ k. k) decode_number result ≡ heading four_bytes.now }
     ensures bound { IfOk result (λ k. payload_length k ≤ 65516) }

@@ -42,6 +42,7 @@ pub fn data_to_area(payload: &[u8], area: &mut [u8]) -> Result<usize, Error>
 }
 
 /// The packet of a text line, which goes out as given: no LF is added.
+// A name of the Rust beside `data_to_area`: what a line may be is another definition, which here says the same.
 pub fn line_to_area(text: &[u8], area: &mut [u8]) -> Result<usize, Error>
     ensures { Framed (line_pkt text.now) area.old (told (λ n. n) encode_number result) area.new }
 {

@@ -11,6 +11,7 @@ pub fn hex_char(n: usize) -> u8
     if d < 10 { b'0' + d } else { b'a' + (d - 10) }
 }
 
+// The room that each needs is asked for: the areas are of any caller, and of three lengths.
 /// The four digits of `n` over the front of `area`.
 fn lay_header(n: usize, area: &mut [u8])
     requires small { n < 65536 }

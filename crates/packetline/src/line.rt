@@ -23,6 +23,7 @@ pub fn after<'a>(prefix: &[u8], payload: &'a [u8]) -> Option<&'a [u8]>
 
 impl<'a> Line<'a> {
     /// The line that a payload holds.
+    // A name that users call: a `From` beside it would be a second one.
     pub fn read(payload: &'a [u8]) -> Line<'a>
         ensures value { line_kind result ≡ kind_of payload.now }
         ensures law { IsLine payload.now (line_kind result) }

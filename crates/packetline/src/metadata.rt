@@ -6,9 +6,8 @@ ghost use Rattle.packetline.specs.Metadata.{Bare, IsPair, LessEnds, Padded, blan
 use crate::text::text;
 use slices::equal::first;
 
-// A side of a line.
+// A side of a line. A switch, and no closure: its clause would have to name the definitions `part`, `rest` and `both` for its side.
 #[derive(Clone, Copy)]
-// A switch by side: as closures each side would be three functions (its bytes, the others, both put together), passed side by side.
 enum Side {
     Front,
     Back,
@@ -58,6 +57,7 @@ fn less_white(line: &[u8], side: Side) -> Option<&[u8]>
 fn trim_side(line: &[u8], side: Side) -> &[u8]
     ensures { Padded side line.now result.now × Bare side result.now }
 {
+    // No iterator: a step depends on what is left.
     let mut trimmed = line;
     while let Some(less) = less_white(trimmed, side) {
         trimmed = less;

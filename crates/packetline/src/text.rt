@@ -57,7 +57,7 @@ pub fn decimal(n: u64, digits: &mut [u8; 20]) -> usize
     ensures len { length digits.new ≡ 20 }
     ensures law { number_of (decimal_of n) ≡ Some n }
 {
-    // Counted by hand: a library for it would be one more to trust, and std prints to the heap or to a writer whose text no clause places.
+    // Counted by hand: nothing new is to be trusted, as the kit's formatter would be, and std prints to the heap or to a writer whose text no clause places.
     let mut at = 19;
     let mut left = n;
     while left >= 10 {

@@ -77,7 +77,8 @@ fn digit_value(b: u8) -> u8
     hex_value(b).unwrap_or(0)
 }
 
-/// The byte that a text shows first, if it shows any.
+/// The byte that a text shows first, if it shows any; some byte where it shows none, which `behind` then refuses.
+// No Option: it would say first what `behind` says for every text.
 fn lead(text: &[u8]) -> u8
     ensures { result ≡ lead text.now }
 {

@@ -10,6 +10,7 @@ pub struct NoStart<H> {
     pub below: H,
 }
 
+// Hands on by hand, for Forward's reason.
 impl<H: Host> Host for NoStart<H> {
     ghost world = { λ s. unstartable (H.Host.world s.below) };
 

@@ -13,6 +13,7 @@ pub use slices::name::OutsideLimits;
 use std::array;
 
 /// The `len` bytes from `at` on.
+// Of the shape of client's `PathRow`: neither crate uses the other, and each is named in its own promises.
 #[derive(Clone, Copy)]
 pub struct Part {
     pub at: usize,

@@ -47,6 +47,7 @@ impl Numbered for OutsideLimits {
 
 impl Name {
     /// The name that `text` spells, if it may be one.
+    // A name that users call: a `TryFrom` beside it would be a second one.
     pub fn new(text: &[u8]) -> Result<Name, OutsideLimits>
         ensures value { told name_bytes name_number result ≡ (if is_name text.now then Ok text.now else Err 2) }
         ensures meaning { Decides (is_ok result) (IsName text.now) }

@@ -29,6 +29,7 @@ pub struct Rows<'a, T> {
 }
 
 impl<'a, T: Drop> Rows<'a, T> {
+    // `lender`: a reference in a struct could be put in another's place, so that it was not is promised.
     /// No row is held yet.
     pub fn new(rows: &'a mut [T]) -> Rows<'a, T>
         ensures lender { result.rows.ghost_name ≡ rows.entry.ghost_name }

@@ -10,6 +10,7 @@ use recording::line::Direction;
 use std::alloc::{AllocError, Global};
 
 /// Bytes that a process took or gave.
+// Not a process beside a recording's `Record`: a note's bytes may be none, and no user asks for the record alone.
 #[derive(Drop)]
 pub struct Passed {
     pub process: usize,
@@ -81,6 +82,7 @@ impl<H> Traced<H> {
     }
 }
 
+// Hands on by hand, as scripts' layers do: one impl for every layer is only for host to write.
 impl<H: Host> Host for Traced<H> {
     ghost world = { λ s. H.Host.world s.below };
 

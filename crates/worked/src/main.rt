@@ -16,7 +16,6 @@ use slices::equal::first;
 use slices::name::{Name, OutsideLimits};
 use slices::refusal::Numbered;
 use slices::rows::Rows;
-use std::alloc::AllocError;
 use std::io;
 
 /// The table of worked cases stands.
