@@ -1,3 +1,4 @@
+pub mod Judging
 pub mod Places
 pub mod Prefixes
 pub mod Naming

@@ -7,7 +7,8 @@ use Rattle.slices.specs.Names.{name_bytes}
 use Rattle.slices.proofs.Searches.{first_is}
 use Rattle.packetline.specs.Lines.{kind_of}
 use Rattle.process.specs.Masks.{holds, with_bit, place_of}
-use Rattle.handshake.specs.Handshakes.{capability_in, at_place, with_name, mask_then, mask_after, NamedAt, AllDesired}
+use Rattle.handshake.specs.Judged.{capability_in}
+use Rattle.handshake.specs.Handshakes.{at_place, with_name, mask_then, mask_after, NamedAt, AllDesired}
 use Rattle.handshake.proofs.Prefixes.{named_spelt, spelt_named}
 use Rattle.process.proofs.Masks.{holds_none, holds_with}
 

@@ -12,7 +12,7 @@ use Rattle.slices.specs.Names.{name_bytes, name_number}
 use Rattle.packetline.specs.Packets.{flush, line_pkt}
 use Rattle.process.specs.Masks.{place_of}
 use Rattle.process.proofs.Lines.{lines_next}
-use Rattle.handshake.specs.Handshakes.{capability_line}
+use Rattle.handshake.specs.Judged.{capability_line}
 
 module _ (text : List ℕ) (no : is_name text ≡ false) where
   -- a name is lawful, so it is not spelt like a text that is no name

@@ -14,7 +14,8 @@ use Rattle.host.specs.declared.fault.LineFault.{LineFault}
 use Rattle.host.specs.Talk.{bytes_sent, bytes_given, Wire, Got, got, then, send_all, read_text}
 use Rattle.process.specs.Given.{ReadsAs, all_text}
 use Rattle.process.specs.Masks.{holds}
-use Rattle.handshake.specs.Handshakes.{hello, desired, welcomed, chosen, ended, with_line, mask_then, mask_after, if_right, read_judged, names_turn, names_step, read_names, Shaken, shaken, names_of, asks, flush_then, version_then, welcome_then, handshake, NamedAt, Agreed, HandshakeLaw}
+use Rattle.handshake.specs.Judged.{if_right, read_judged}
+use Rattle.handshake.specs.Handshakes.{hello, desired, welcomed, chosen, ended, with_line, mask_then, mask_after, names_turn, names_step, read_names, Shaken, shaken, names_of, asks, flush_then, version_then, welcome_then, handshake, NamedAt, Agreed, HandshakeLaw}
 use Rattle.process.proofs.Passes.{Passes, passes_then, passes_so, passes_got, send_all_passes, NoFlush, AText, text_passes, quiet_none, Turns, gather_passes, Told, told_by_talk}
 use Rattle.process.proofs.Tellings.{map_push, text_push, text_silent, flushes_append, lines_flushes, lines_same}
 use Rattle.process.proofs.Masks.{masks_same}

@@ -3,5 +3,6 @@
 
 pub mod agreement;
 pub mod inner;
+mod judged;
 mod parts;
 pub mod protocol;

@@ -1,7 +1,8 @@
 //! What can go wrong in a handshake.
 ghost use Rattle.std.specs.Prelude.{◌≡◌};
 ghost use Rattle.handshake.specs.declared.protocol.Refusal.TheVariants.{Line as of_line, Protocol as of_protocol};
-ghost use Rattle.handshake.specs.Handshakes.{protocol_number, refusal_number};
+ghost use Rattle.handshake.specs.Handshakes.{protocol_number};
+ghost use Rattle.handshake.specs.Judged.{refusal_number};
 
 use host::fault::LineFault;
 use slices::refusal::Numbered;
@@ -31,31 +32,31 @@ impl Numbered for Protocol {
 }
 
 // Not a `CallError`: neither side is the caller, and both convert.
-/// Why a handshake did not come to its end: the line is at fault, or the process said what it must not.
+/// Why a handshake did not come to its end: the line is at fault, or the other side said what it must not.
 #[derive(Clone, Copy)]
-pub enum Refusal {
+pub enum Refusal<P> {
     Line(LineFault),
-    Protocol(Protocol),
+    Protocol(P),
 }
 
-impl From<LineFault> for Refusal {
+impl<P> From<LineFault> for Refusal<P> {
     ghost from_gives = { λ f r. r ≡ of_line f };
 
-    fn from(f: LineFault) -> Refusal {
+    fn from(f: LineFault) -> Refusal<P> {
         Refusal::Line(f)
     }
 }
 
-impl From<Protocol> for Refusal {
+impl From<Protocol> for Refusal<Protocol> {
     ghost from_gives = { λ p r. r ≡ of_protocol p };
 
-    fn from(p: Protocol) -> Refusal {
+    fn from(p: Protocol) -> Refusal<Protocol> {
         Refusal::Protocol(p)
     }
 }
 
-impl Numbered for Refusal {
-    ghost number = { refusal_number };
+impl<P: Numbered> Numbered for Refusal<P> {
+    ghost number = { refusal_number P.number };
 
     fn refusal_number(self) -> u8 {
         match self {
