@@ -8,15 +8,8 @@ use Rattle.host.specs.Talk.{Event, took, refused, gave, noted, bytes_sent, bytes
 use Rattle.process.specs.Given.{ReadsAs}
 use Rattle.client.specs.Paths.{path_in, listed, paths_named}
 use Rattle.client.specs.Listings.{named_in}
+use Rattle.process.proofs.Reading.{given_append}
 use Rattle.process.proofs.Passes.{OneRead, NoneRead, whole_passes, decode_append, Told, told_by_talk}
-
--- events stand the latest first
-pub given_append : (xs ys : List Event) → bytes_given (xs ++ ys) ≡ bytes_given ys ++ bytes_given xs
-given_append [] ys = sym (append-nil (bytes_given ys))
-given_append (took b ∷ xs) ys = given_append xs ys
-given_append (refused b ∷ xs) ys = given_append xs ys
-given_append (gave b ∷ xs) ys = ap (λ l. l ++ b) (given_append xs ys) ∙ append_assoc (bytes_given ys) (bytes_given xs) b
-given_append (noted s ∷ xs) ys = given_append xs ys
 
 -- one packet more
 pub named_push : (hs : List Pkt) (p : Pkt) → flushes_of hs ≡ 0 → paths_named (hs ++ p ∷ []) ≡ paths_named hs ++ paths_named (p ∷ [])

@@ -11,13 +11,12 @@ use Rattle.host.specs.Acts.{Log}
 use Rattle.host.specs.Talk.{Wire, Got, got, then, read_text, shown_part}
 use Rattle.host.specs.Peers.{Does}
 use Rattle.host.proofs.Peering.{does_then, does_stop, does_is, does_got}
+use Rattle.process.proofs.Reading.{text_at}
 use Rattle.handshake.specs.declared.protocol.Refusal.{Refusal}
 use Rattle.handshake.specs.declared.protocol.Refusal.TheVariants.{Line, Protocol as Wrong}
 use Rattle.handshake.specs.Judged.{if_right, read_judged, heard}
 
--- the text of a part that was read
-abbrev pub text_at : List ℕ → Option ℕ → Option (List ℕ)
-text_at area o = option_map (λ n. take n area) o
+
 
 module _ {P : Type 0} (number : P → ℕ) {H : Type 0} {log : H → Log} {world : H → World} {A : Type 0} (judge : Option (List ℕ) → Result A ℕ) {p p₁ : Peer H} where
   pub judged_fault : {X : Type 0} (f : X → A) (e : LineFault) (r : Result X (Refusal P)) → Does log world read_text p (Err e) p₁ → r ≡ Err (Line e) → Does log world (read_judged judge) p (heard number f r) p₁

@@ -297,28 +297,59 @@ NoContent gs ss = (flushes_of gs ≡ 0) × (ss ≡ []) × ((l : List ℕ) → gs
 right_nil : {X : Type 0} (xs : List X) (ys : List X) → xs ≡ ys → xs ++ [] ≡ ys
 right_nil xs ys e = append-nil xs ∙ e
 
-no_flushes : (p : Pkt) (gs ss : List Pkt) → flush_one p ≡ 0 → OneRead gs ss p → NoFlush (gs ++ []) (ss ++ [])
-no_flushes p gs ss z h = (ap flushes_of (right_nil gs _ h.0) ∙ (let k : flush_one p + 0 ≡ 0 = omega (arith, z) in k), right_nil ss _ h.1)
+-- no content was given: less than a packet, or a marker
+abbrev pub Unread : List Pkt → Type 0
+Unread [] = Unit {0}
+Unread (flush ∷ ps) = ⊥
+Unread (delimiter ∷ ps) = ps ≡ []
+Unread (response_end ∷ ps) = ps ≡ []
+Unread (line l ∷ ps) = ⊥
 
-no_contents : (p : Pkt) (gs ss : List Pkt) → flush_one p ≡ 0 → ((l : List ℕ) → p ≡ line l → ⊥) → OneRead gs ss p → NoContent (gs ++ []) (ss ++ [])
-no_contents p gs ss z other h =
-    let k = no_flushes p gs ss z h in
-    (k.0, k.1, λ l e. let one = right_nil gs _ h.0 in let same : p ≡ line l = cc in other l same)
+-- no text was given: no content, or a line that is no text
+abbrev pub Untold : List Pkt → Type 0
+Untold [] = Unit {0}
+Untold (flush ∷ ps) = ⊥
+Untold (delimiter ∷ ps) = ps ≡ []
+Untold (response_end ∷ ps) = ps ≡ []
+Untold (line l ∷ ps) = (utf8 l ≡ false) × (ps ≡ [])
 
-wanted_passes : (p : Pkt) (gs ss : List Pkt) (u : Wire) → OneRead gs ss p → Passes (λ hs ts o. Content (gs ++ hs) (ss ++ ts) o) (λ hs ts. NoContent (gs ++ hs) (ss ++ ts)) u (wanted p u)
+abbrev pub Silent : (List Pkt → Type 0) → List Pkt → List Pkt → Type 0
+Silent Q gs ss = (ss ≡ []) × Q gs
+
+unread_untold : (gs : List Pkt) → Unread gs → Untold gs
+unread_untold [] h = tt
+unread_untold (flush ∷ ps) h = h
+unread_untold (delimiter ∷ ps) h = h
+unread_untold (response_end ∷ ps) h = h
+unread_untold (line l ∷ ps) h = absurd h
+
+untold_flushes : (gs : List Pkt) → Untold gs → flushes_of gs ≡ 0
+untold_flushes [] h = refl
+untold_flushes (flush ∷ ps) h = absurd h
+untold_flushes (delimiter ∷ ps) h = let k : flushes_of ps ≡ 0 = ap flushes_of h in omega arith
+untold_flushes (response_end ∷ ps) h = let k : flushes_of ps ≡ 0 = ap flushes_of h in omega arith
+untold_flushes (line l ∷ ps) h = let k : flushes_of ps ≡ 0 = ap flushes_of h.1 in omega arith
+
+unread_line : (gs : List Pkt) (l : List ℕ) → Unread gs → gs ≡ line l ∷ [] → ⊥
+unread_line gs l h e = subst Unread e h
+
+-- nothing more was given, and nothing sent
+last : (Q : List Pkt → Type 0) (gs ss qs : List Pkt) → gs ≡ qs → ss ≡ [] → Q qs → Silent Q (gs ++ []) (ss ++ [])
+last Q gs ss qs e f q = (right_nil ss _ f, subst Q (sym (right_nil gs _ e)) q)
+
+wanted_passes : (p : Pkt) (gs ss : List Pkt) (u : Wire) → OneRead gs ss p → Passes (λ hs ts o. Content (gs ++ hs) (ss ++ ts) o) (λ hs ts. Silent Unread (gs ++ hs) (ss ++ ts)) u (wanted p u)
 wanted_passes flush gs ss u h = passes_got None u (right_nil gs _ h.0, right_nil ss _ h.1)
-wanted_passes delimiter gs ss u h = passes_lost _ u (no_contents delimiter gs ss refl (λ l e. let z : ◌≡◌ {A = ℕ} 0 1 = cc in omega arith) h)
-wanted_passes response_end gs ss u h = passes_lost _ u (no_contents response_end gs ss refl (λ l e. let z : ◌≡◌ {A = ℕ} 0 1 = cc in omega arith) h)
+wanted_passes delimiter gs ss u h = passes_lost _ u (last Unread gs ss (delimiter ∷ []) h.0 h.1 refl)
+wanted_passes response_end gs ss u h = passes_lost _ u (last Unread gs ss (response_end ∷ []) h.0 h.1 refl)
 wanted_passes (line l) gs ss u h = passes_got (Some l) u (right_nil gs _ h.0, right_nil ss _ h.1)
 
--- content, or a fault before any
+-- content, or none
+unread_passes : (v : Wire) → Passes Content (Silent Unread) v (read_content v)
+unread_passes v = passes_then wanted v (read v) (whole_passes v) (λ gs ss p u h. wanted_passes p gs ss u h) (λ gs ss h. (h.1, subst Unread (sym h.0) tt))
+
 pub only_content_passes : (v : Wire) → Passes Content NoContent v (read_content v)
 only_content_passes v =
-    passes_then wanted v (read v) (whole_passes v) (λ gs ss p u h. wanted_passes p gs ss u h)
-    (λ gs ss h. (ap flushes_of h.0, h.1, λ l e. let none = h.0 in let z : ◌≡◌ {A = ℕ} 0 1 = cc in omega arith))
-
-pub content_passes : (v : Wire) → Passes Content NoFlush v (read_content v)
-content_passes v = passes_so v (read_content v) (only_content_passes v) (λ gs ss o h. h) (λ gs ss h. (h.0, h.1))
+    passes_so v (read_content v) (unread_passes v) (λ gs ss o h. h) (λ gs ss h. (untold_flushes gs (unread_untold gs h.1), h.0, λ l e. unread_line gs l h.1 e))
 
 -- one packet of text
 abbrev pub AText : List Pkt → List Pkt → Option (List ℕ) → Type 0
@@ -329,18 +360,27 @@ text_is : (b : Bool) (t u : List ℕ) (n : ℕ) → ◌≡◌ {A = Result (List 
 text_is true t u n e = (refl, cc)
 text_is false t u n e = let z : ◌≡◌ {A = ℕ} 0 1 = cc in absurd (omega arith)
 
+text_not : (b : Bool) (u : List ℕ) (n m : ℕ) → ◌≡◌ {A = Result (List ℕ) ℕ} (cond b (Ok u) (Err n)) (Err m) → b ≡ false
+text_not true u n m e = let z : ◌≡◌ {A = ℕ} 0 1 = cc in absurd (omega arith)
+text_not false u n m e = refl
+
 texted_passes : (l : List ℕ) (r : Result (List ℕ) ℕ) → text_of l ≡ r → (gs ss : List Pkt) (u : Wire) → Content gs ss (Some l)
-    → Passes (λ hs ts o. AText (gs ++ hs) (ss ++ ts) o) (λ hs ts. NoFlush (gs ++ hs) (ss ++ ts)) u (texted r u)
+    → Passes (λ hs ts o. AText (gs ++ hs) (ss ++ ts) o) (λ hs ts. Silent Untold (gs ++ hs) (ss ++ ts)) u (texted r u)
 texted_passes l (Ok t) e gs ss u h = let k = text_is _ _ _ _ e in passes_got (Some t) u (l, right_nil gs _ h.0, k.0, k.1, right_nil ss _ h.1)
-texted_passes l (Err n) e gs ss u h = passes_lost _ u (no_flushes (line l) gs ss refl h)
+texted_passes l (Err n) e gs ss u h = passes_lost _ u (last Untold gs ss (line l ∷ []) h.0 h.1 (text_not _ _ _ _ e, refl))
 
 text_in_passes : (o : Option (List ℕ)) (gs ss : List Pkt) (u : Wire) → Content gs ss o
-    → Passes (λ hs ts x. AText (gs ++ hs) (ss ++ ts) x) (λ hs ts. NoFlush (gs ++ hs) (ss ++ ts)) u (text_in o u)
+    → Passes (λ hs ts x. AText (gs ++ hs) (ss ++ ts) x) (λ hs ts. Silent Untold (gs ++ hs) (ss ++ ts)) u (text_in o u)
 text_in_passes None gs ss u h = passes_got None u (right_nil gs _ h.0, right_nil ss _ h.1)
 text_in_passes (Some l) gs ss u h = texted_passes l (text_of l) refl gs ss u h
 
+-- text, or none
+pub only_text_passes : (v : Wire) → Passes AText (Silent Untold) v (read_text v)
+only_text_passes v =
+    passes_then text_in v (read_content v) (unread_passes v) (λ gs ss o u h. text_in_passes o gs ss u h) (λ gs ss h. (h.0, unread_untold gs h.1))
+
 pub text_passes : (v : Wire) → Passes AText NoFlush v (read_text v)
-text_passes v = passes_then text_in v (read_content v) (content_passes v) (λ gs ss o u h. text_in_passes o gs ss u h) (λ gs ss h. h)
+text_passes v = passes_so v (read_text v) (only_text_passes v) (λ gs ss o h. h) (λ gs ss h. (untold_flushes gs h.1, h.0))
 
 -- Reading on
 

@@ -1,7 +1,8 @@
 use Rattle.std.proofs.Common.{Some, Err, sym, ap, ◌∙◌}
 use Rattle.slices.specs.Answers.{told}
 use Rattle.host.proofs.Exits.{told_err}
-use Rattle.handshake.proofs.Judging.{text_at, judged_fault, judged_line, mapped}
+use Rattle.handshake.proofs.Judging.{judged_fault, judged_line, mapped}
+use Rattle.process.proofs.Reading.{text_at}
 use Rattle.handshake.proofs.judged.read_judged.Goals.{in-Some, in-None}
 use Rattle.handshake.proofs.judged.read_judged.Goals as goal
 
