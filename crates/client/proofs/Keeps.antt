@@ -9,6 +9,7 @@ use Rattle.slices.specs.Answers.{told}
 use Rattle.slices.specs.Held.{handed_back, pushed, IsPush}
 use Rattle.packetline.specs.Packets.{over}
 use Rattle.host.specs.Parts.{joined}
+use Rattle.process.proofs.Laid.{laid_set, took}
 use Rattle.client.specs.declared.paths.Kept.{Kept}
 use Rattle.client.specs.declared.paths.PathRow.{PathRow}
 use Rattle.client.specs.Paths.{fitting, rows_of, rows_over, part_at, FirstOf, Stored, Keeping, KeepsPath, KeepsLine, most, listed}
@@ -32,14 +33,6 @@ rows_of_append at [] qs = let e : at ≡ at + 0 = omega arith in ap (λ n. rows_
 rows_of_append at (p ∷ ps) qs =
     let e : at + length p + length (joined ps) ≡ at + length (p ++ joined ps) = simp length-append (omega arith) in
     ap (λ rs. record { at = at; len = length p } ∷ rs) (rows_of_append (at + length p) ps qs ∙ ap (λ n. rows_of (at + length p) ps ++ rows_of n qs) e)
-
--- one row more behind those that are laid
-pub rows_over_set : (new rows : List PathRow) (row : PathRow) → length new < length rows → set (rows_over new rows) (length new) row ≡ rows_over (new ++ row ∷ []) rows
-rows_over_set new rows row h =
-    ap (λ l. set (new ++ l) (length new) row) (drop_more rows (length new) row h)
-    ∙ set_at new (get_or rows (length new) row) (drop (length new + 1) rows) row (length new) refl
-    ∙ sym (append_assoc new (row ∷ []) (drop (length new + 1) rows))
-    ∙ ap (λ n. (new ++ row ∷ []) ++ drop n rows) (sym (length_push new row))
 
 -- bytes behind those that are laid
 pub over_put : (xs ys area : List ℕ) → put_mid (length xs) (length ys) (over xs area) ys ≡ over (xs ++ ys) area
@@ -157,7 +150,7 @@ module _ (named : List (List ℕ)) (rows : List PathRow) (text : List ℕ) (m : 
       let rs : set rows' count row ≡ rows_over (rows_of 0 (stored ++ p ∷ [])) rows =
       ap (λ l. set l count row) was.stored_so_far.rows_are
       ∙ ap (λ i. set (rows_over (rows_of 0 stored) rows) i row) many
-      ∙ rows_over_set (rows_of 0 stored) rows row (omega (arith, sizes, many))
+      ∙ laid_set (rows_of 0 stored) rows row (omega (arith, sizes, many))
       ∙ ap (λ (i : ℕ). rows_over (rows_of 0 stored ++ record { at = i; len = length p } ∷ []) rows) place
       ∙ ap (λ l. rows_over l rows) (sym (rows_of_append 0 stored (p ∷ []))) in
       let ts : put_mid at k text' part ≡ over (joined (stored ++ p ∷ [])) text =
@@ -210,23 +203,6 @@ module _ (named : List (List ℕ)) (rows : List PathRow) (text : List ℕ) (m : 
       ∙ append-nil stored)
 
 -- A push
-
--- one that is taken
-took :
-    {X : Type 0} (rows rows' : List X) (count count' : ℕ) (row : X) (r : Result (Unit {0}) (Full X)) (u : Unit {0})
-    → (told (λ u. u) handed_back r, rows', count') ≡ pushed rows count row → result_ok r ≡ Some u → (count < length rows) × (rows' ≡ set rows count row) × (count' ≡ count + 1)
-took rows rows' count count' row (Err f) u h ok = let z : ◌≡◌ {A = ℕ} 0 1 = cc in absurd (omega arith)
-took rows rows' count count' row (Ok v) u h ok =
-    ⊎_elim
-    (λ (l : count < length rows).
-    let e = h ∙ cond-true (ltb count (length rows)) (Ok tt, set rows count row, count + 1) (Err (7, row), rows, count) (lt-ltb count (length rows) l) in
-    (l, ap (λ t. t.1) e, ap (λ t. t.2) e))
-    (λ (l : length rows ≤ count).
-    let e = h ∙ cond-false (ltb count (length rows)) (Ok tt, set rows count row, count + 1) (Err (7, row), rows, count) (le-ltb count (length rows) l) in
-    let apart = ap (λ t. t.0) e in
-    let z : ◌≡◌ {A = ℕ} 0 1 = cc in
-    absurd (omega arith))
-    (cases_lt count (length rows))
 
 -- one that is refused
 refused :

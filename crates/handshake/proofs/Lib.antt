@@ -4,3 +4,7 @@ pub mod Prefixes
 pub mod Naming
 pub mod NamesLoop
 pub mod Shakes
+pub mod Placing
+pub mod SharedLoop
+pub mod Offering
+pub mod VersionsLoop

@@ -11,6 +11,8 @@ use Rattle.host.specs.Peers.{seen, SameLent, Does}
 use Rattle.host.proofs.Talking.{talk_is}
 use Rattle.host.proofs.Peering.{same_peer, same_then, later, does_is}
 use Rattle.process.specs.Gather.{Turn, goes, stops, gather}
+use Rattle.process.specs.Given.{Law}
+use Rattle.process.specs.Peers.{DoesBy}
 use Rattle.process.proofs.Gathers.{Left, left_first, left_fault, left_stop, left_more, text_falls}
 use Rattle.process.proofs.Passes.{AText, Silent, Untold, only_text_passes, Told, told_by_talk}
 
@@ -46,6 +48,15 @@ pub record DoesGiven {H A : Type 0} (log : H → Log) (world : H → World) (Q :
 
 pub given_does : {H A : Type 0} {log : H → Log} {world : H → World} {Q : List ℕ → Type 0} {f : Wire → Got A} {p p' : Peer H} {r : Result A LineFault} → DoesGiven log world Q f p r p' → Does log world f p r p'
 given_does d = record { lent = d.lent; talks = λ status. (d.talks status).0 }
+
+-- a law that follows from what was given
+pub by_given : {H A : Type 0} {log : H → Log} {world : H → World} {Q : List ℕ → Type 0} {f : Wire → Got A} {p p' : Peer H} {r : Result A LineFault} (law : Law A) → DoesGiven log world Q f p r p'
+    → ((sent given : List ℕ) → Q given → law sent given r) → DoesBy log world law f p r p'
+by_given law d so = record { lent = d.lent; talks = λ status. let t = d.talks status in (t.0, so (bytes_sent t.0.events) (bytes_given t.0.events) t.1) }
+
+-- an answer known by an equation
+pub by_is : {H A : Type 0} {log : H → Log} {world : H → World} {law : Law A} {f : Wire → Got A} {p p' : Peer H} {r r' : Result A LineFault} → r' ≡ r → DoesBy log world law f p r p' → DoesBy log world law f p r' p'
+by_is {log = log} {world = world} {law = law} {f = f} {p = p} {p' = p'} e d = subst (λ x. DoesBy log world law f p x p') (sym e) d
 
 module _ {H S A : Type 0} {log : H → Log} {world : H → World} (step : S → Option (List ℕ) → Turn S A) (K : List ℕ → S → Type 0) where
   pub lines_first : (s : S) → K [] s → (p : Peer H) → LeftLines log world step K (gather read_text step s) s p p
