@@ -8,3 +8,4 @@ pub mod Placing
 pub mod SharedLoop
 pub mod Offering
 pub mod VersionsLoop
+pub mod Sharings
