@@ -1,4 +1,4 @@
-use Rattle.std.proofs.Common.{Some, Err, sym, ap, ◌∙◌}
+use Rattle.std.proofs.Common.{Some, sym, ap, ◌∙◌}
 use Rattle.host.proofs.Exits.{told_err}
 use Rattle.handshake.proofs.NamesLoop.{text_at, judged_fault, judged_wrong, judged_right}
 use Rattle.handshake.proofs.parts.read_judged.Goals as goal
