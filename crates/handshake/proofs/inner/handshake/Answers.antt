@@ -1,4 +1,4 @@
-use Rattle.std.proofs.Common.{Ok, Err, refl, ap, ◌∙◌, rules}
+use Rattle.std.proofs.Common.{Ok, refl, ap, rules}
 use Rattle.host.proofs.Exits.{told_err}
 use Rattle.host.proofs.Peering.{does_then, does_stop, does_is, does_got}
 use Rattle.slices.specs.Names.{name_bytes}
