@@ -1,6 +1,7 @@
 pub mod Laid
 pub mod Gathers
 pub mod Passes
+pub mod Packetwise
 pub mod LineKinds
 pub mod Tellings
 pub mod StatusLoop

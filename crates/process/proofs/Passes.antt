@@ -399,14 +399,22 @@ abbrev pub Told : {A : Type 0} → (List Pkt → List Pkt → A → Type 0) → 
 Told P Q sent given (Ok a) = (gs : List Pkt) × ((ss : List Pkt) × ReadsAs given gs × (sent ≡ packets ss) × P gs ss a)
 Told P Q sent given (Err f) = (gs : List Pkt) × ((ss : List Pkt) × ((decode given).packets ≡ gs) × (sent ≡ packets ss) × Q gs ss)
 
+-- from the start on
+module _ (v u : Wire) (es : List Event) (gs ss : List Pkt) (start : v.events ≡ []) (end : u.events ≡ es ++ []) where
+  pub since_told : Since v u gs ss → ReadsAs (bytes_given es) gs × (bytes_sent es ≡ packets ss)
+  since_told s =
+      let given : bytes_given es ≡ s.bytes = ap bytes_given (sym (end ∙ append-nil es)) ∙ s.given ∙ ap (λ xs. bytes_given xs ++ s.bytes) start in
+      (ap decode given ∙ s.reads, ap bytes_sent (sym (end ∙ append-nil es)) ∙ s.sent ∙ ap (λ xs. bytes_sent xs ++ packets ss) start)
+
+  pub until_told : Until v u gs ss → ((decode (bytes_given es)).packets ≡ gs) × (bytes_sent es ≡ packets ss)
+  until_told s =
+      let given : bytes_given es ≡ s.bytes = ap bytes_given (sym (end ∙ append-nil es)) ∙ s.given ∙ ap (λ xs. bytes_given xs ++ s.bytes) start in
+      (ap (λ xs. (decode xs).packets) given ∙ s.reads, ap bytes_sent (sym (end ∙ append-nil es)) ∙ s.sent ∙ ap (λ xs. bytes_sent xs ++ packets ss) start)
+
 told_ends : {A : Type 0} (P : List Pkt → List Pkt → A → Type 0) (Q : List Pkt → List Pkt → Type 0) (v u : Wire) (es : List Event) (r : Result A LineFault) → v.events ≡ [] → u.events ≡ es ++ []
     → Passed P Q v (ends r u) → Told P Q (bytes_sent es) (bytes_given es) r
-told_ends P Q v u es (Ok a) start end (gs, (ss, s, p)) =
-    let given : bytes_given es ≡ s.bytes = ap bytes_given (sym (end ∙ append-nil es)) ∙ s.given ∙ ap (λ xs. bytes_given xs ++ s.bytes) start in
-    (gs, (ss, ap decode given ∙ s.reads, ap bytes_sent (sym (end ∙ append-nil es)) ∙ s.sent ∙ ap (λ xs. bytes_sent xs ++ packets ss) start, p))
-told_ends P Q v u es (Err f) start end (gs, (ss, s, q)) =
-    let given : bytes_given es ≡ s.bytes = ap bytes_given (sym (end ∙ append-nil es)) ∙ s.given ∙ ap (λ xs. bytes_given xs ++ s.bytes) start in
-    (gs, (ss, ap (λ xs. (decode xs).packets) given ∙ s.reads, ap bytes_sent (sym (end ∙ append-nil es)) ∙ s.sent ∙ ap (λ xs. bytes_sent xs ++ packets ss) start, q))
+told_ends P Q v u es (Ok a) start end (gs, (ss, s, p)) = let t = since_told v u es gs ss start end s in (gs, (ss, t.0, t.1, p))
+told_ends P Q v u es (Err f) start end (gs, (ss, s, q)) = let t = until_told v u es gs ss start end s in (gs, (ss, t.0, t.1, q))
 
 pub told_by_talk : {A : Type 0} (P : List Pkt → List Pkt → A → Type 0) (Q : List Pkt → List Pkt → Type 0) (f : Wire → Got A) {w : Sight} {p : ℕ} {a : Areas} {r : Result A LineFault} {w' : Sight} {a' : Areas}
     → ((v : Wire) → Passes P Q v (f v)) → (t : Talks f w p a r w' a') → Told P Q (bytes_sent t.events) (bytes_given t.events) r
