@@ -15,6 +15,13 @@ given_append (refused b ∷ xs) ys = given_append xs ys
 given_append (gave b ∷ xs) ys = ap (λ l. l ++ b) (given_append xs ys) ∙ append_assoc (bytes_given ys) (bytes_given xs) b
 given_append (noted s ∷ xs) ys = given_append xs ys
 
+pub sent_append : (xs ys : List Event) → bytes_sent (xs ++ ys) ≡ bytes_sent ys ++ bytes_sent xs
+sent_append [] ys = sym (append-nil (bytes_sent ys))
+sent_append (took b ∷ xs) ys = ap (λ l. l ++ b) (sent_append xs ys) ∙ append_assoc (bytes_sent ys) (bytes_sent xs) b
+sent_append (refused b ∷ xs) ys = sent_append xs ys
+sent_append (gave b ∷ xs) ys = sent_append xs ys
+sent_append (noted s ∷ xs) ys = sent_append xs ys
+
 -- A packet is read
 
 module _ (es fs : List Event) (hs : List Pkt) (so_far : ReadsAs (bytes_given es) hs) where

@@ -124,7 +124,7 @@ pub record Until (v u : Wire) (gs ss : List Pkt) : Type 0 where
   pub sent : bytes_sent u.events ≡ bytes_sent v.events ++ packets ss
 
 -- what was given and sent and what was answered are in this relation
-abbrev Passed : {A : Type 0} → (List Pkt → List Pkt → A → Type 0) → (List Pkt → List Pkt → Type 0) → Wire → Got A → Type 0
+abbrev pub Passed : {A : Type 0} → (List Pkt → List Pkt → A → Type 0) → (List Pkt → List Pkt → Type 0) → Wire → Got A → Type 0
 Passed P Q v (got a u) = (gs : List Pkt) × ((ss : List Pkt) × Since v u gs ss × P gs ss a)
 Passed P Q v (lost f u) = (gs : List Pkt) × ((ss : List Pkt) × Until v u gs ss × Q gs ss)
 
