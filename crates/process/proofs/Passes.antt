@@ -359,11 +359,11 @@ abbrev pub Turns : {S A : Type 0} → (List Pkt → S → Type 0) → (List Pkt 
 Turns I P hs (goes s ns) = Quiet ns × I hs s
 Turns I P hs (stops b) = P hs b
 
-module _ {S X A : Type 0} (reader : Wire → Got X) (step : S → X → Turn S A) {R : List Pkt → List Pkt → X → Type 0}
-    (reads : (v : Wire) → Passes R NoFlush v (reader v)) (silent : (gs ss : List Pkt) (x : X) → R gs ss x → ss ≡ [])
+module _ {S X A : Type 0} (reader : Wire → Got X) (step : S → X → Turn S A) {R : List Pkt → List Pkt → X → Type 0} {N : List Pkt → Type 0}
+    (reads : (v : Wire) → Passes R (λ gs ss. N gs × (ss ≡ [])) v (reader v)) (silent : (gs ss : List Pkt) (x : X) → R gs ss x → ss ≡ [])
     (I : List Pkt → S → Type 0) (P : List Pkt → A → Type 0) (Q : List Pkt → Type 0)
     (turn : (hs gs ss : List Pkt) (s : S) (x : X) → I hs s → R gs ss x → Turns I P (hs ++ gs) (step s x))
-    (fault : (hs gs : List Pkt) (s : S) → I hs s → flushes_of gs ≡ 0 → Q (hs ++ gs)) where
+    (fault : (hs gs : List Pkt) (s : S) → I hs s → N gs → Q (hs ++ gs)) (none : N []) where
   abbrev Answers : List Pkt → List Pkt → List Pkt → A → Type 0
   Answers hs gs ss b = (ss ≡ []) × P (hs ++ gs) b
 
@@ -383,15 +383,24 @@ module _ {S X A : Type 0} (reader : Wire → Got X) (step : S → X → Turn S A
       passes_got b u (right_nil ss _ none, subst (λ xs. P xs b) (sym (ap (λ xs. hs ++ xs) (append-nil gs))) p)
 
   gather_in_passes : (k : ℕ) (s : S) (v : Wire) (hs : List Pkt) → I hs s → Passes (Answers hs) (Faults hs) v (gather_in reader step k s v)
-  gather_in_passes zero s v hs i = passes_lost _ v (refl, fault hs [] s i refl)
+  gather_in_passes zero s v hs i = passes_lost _ v (refl, fault hs [] s i none)
   gather_in_passes (suc k) s v hs i =
       passes_then (λ x u. turned (gather_in reader step k) (step s x) u) v (reader v) (reads v)
       (λ gs ss x u r. turned_passes (gather_in reader step k) (step s x) u hs gs ss (λ s' v' i'. gather_in_passes k s' v' (hs ++ gs) i') (silent gs ss x r) (turn hs gs ss s x i r))
       (λ gs ss h. (h.1, fault hs gs s i h.0))
 
-  pub gather_passes : (s : S) (v : Wire) → I [] s → Passes (λ gs ss b. (ss ≡ []) × P gs b) (λ gs ss. (ss ≡ []) × Q gs) v (gather reader step s v)
+  pub gather_passes_by : (s : S) (v : Wire) → I [] s → Passes (λ gs ss b. (ss ≡ []) × P gs b) (λ gs ss. (ss ≡ []) × Q gs) v (gather reader step s v)
   unfolding gather
-  gather_passes s v i = gather_in_passes (suc (length (waiting_of v.end))) s v [] i
+  gather_passes_by s v i = gather_in_passes (suc (length (waiting_of v.end))) s v [] i
+
+-- the same where no more is known of a fault than that no flush was given
+pub gather_passes : {S X A : Type 0} (reader : Wire → Got X) (step : S → X → Turn S A) {R : List Pkt → List Pkt → X → Type 0}
+    (reads : (v : Wire) → Passes R NoFlush v (reader v)) (silent : (gs ss : List Pkt) (x : X) → R gs ss x → ss ≡ [])
+    (I : List Pkt → S → Type 0) (P : List Pkt → A → Type 0) (Q : List Pkt → Type 0)
+    (turn : (hs gs ss : List Pkt) (s : S) (x : X) → I hs s → R gs ss x → Turns I P (hs ++ gs) (step s x))
+    (fault : (hs gs : List Pkt) (s : S) → I hs s → flushes_of gs ≡ 0 → Q (hs ++ gs))
+    (s : S) (v : Wire) → I [] s → Passes (λ gs ss b. (ss ≡ []) × P gs b) (λ gs ss. (ss ≡ []) × Q gs) v (gather reader step s v)
+gather_passes reader step reads silent I P Q turn fault s v i = gather_passes_by reader step reads silent I P Q turn fault refl s v i
 
 -- What a call on a host tells
 

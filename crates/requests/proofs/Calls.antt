@@ -21,7 +21,9 @@ use Rattle.requests.specs.declared.fault.RequestFault.TheVariants.{Line, Command
 use Rattle.requests.specs.Stored.{Pair, Request, request, and_pair, meta_bytes, bytes_of, used, has_space, counts_of, request_at, Holds}
 use Rattle.requests.specs.Requests.{with_meta, meta_step, read_command, read_meta, meta_then, requested, RequestLaw, turn_kept, meta_kept, behind_kept, stored_in, refused, heard, ReadsCommand, ReadsMeta, ReadsRequest}
 use Rattle.requests.proofs.Holding.{holds_shows}
-use Rattle.requests.proofs.FirstGiven.{Outcome, out, FirstGiven, first_given, first_command, first_law, kept_out, first_stored}
+use Rattle.requests.proofs.FirstGiven.{out, bare, FirstGiven, first_given, first_command, first_law, kept_out, first_stored}
+use Rattle.requests.proofs.Leading.{Outcome}
+use Rattle.requests.proofs.Storing.{stored_law}
 use Rattle.requests.proofs.MetaGiven.{MetaPassed, NoMeta, meta_passes, told_law}
 
 -- what was read of metadata, with the process that was held before
@@ -71,40 +73,51 @@ module _ (rows : List MetaRow) (text : List ℕ) (w : Sight) (p : ℕ) (a : Area
   nothing_held : Holds (request [] []) rows text rows text
   nothing_held = record { rows_are = refl; text_is = refl; rows_for = omega arith; room_for = omega arith }
 
-  said_first : (x : Outcome) → Talks (read_command (length text)) w p a x w₁ a₁ → (r : Result (Option Asked) RequestFault) → ((v : Wire) → then (ends x v) next ≡ ends (heard (option_map (request_at rows text)) r) v)
-      → out x ≡ None → ((q : Request) → heard (option_map (request_at rows text)) r ≡ Ok (Ok (Some q)) → ⊥) → (heard (option_map (request_at rows text)) r ≡ Ok (Ok None) → x ≡ Ok (Ok None))
-      → (x ≡ Ok (Ok None) → heard (option_map (request_at rows text)) r ≡ Ok (Ok None)) → ((b : Asked) → r ≡ Ok (Some b) → ⊥) → ReadsRequest rows text w p a r w₁ a₁ rows text
-  said_first x t r is none other to back count =
+  said_first : (x : Outcome) → Talks (read_command (length text)) w p a x w₁ a₁ → out x ≡ None → (r : Result (Option Asked) RequestFault) → bare x ≡ heard (option_map (request_at rows text)) r
+      → ((b : Asked) → r ≡ Ok (Some b) → ⊥) → ReadsRequest rows text w p a r w₁ a₁ rows text
+  said_first x t none r is count =
       let R = length rows in
       let T = length text in
       let y = heard (option_map (request_at rows text)) r in
-      let u : Talks (requested R T) w p a y w₁ a₁ = talk_made (λ g. then g next) x y is t in
       let f = first_given T t in
       let e : stored_in R T (decode (bytes_given t.events)).packets ≡ request [] [] = first_stored R T (bytes_sent t.events) (bytes_given t.events) x f none in
       let held : Holds (stored_in R T (decode (bytes_given t.events)).packets) rows text rows text = subst (λ q. Holds q rows text rows text) (sym e) nothing_held in
       record {
-        talks = (talk_made (λ g. then g next) x y is t, first_law R T (bytes_sent t.events) (bytes_given t.events) x f y other to back);
-        stores = record { holds = held; shows = holds_shows _ rows text rows text held; counts = λ b q. absurd (count b q) };
+        talks = (
+          talk_made (λ g. then g next) x y (λ v. bare_ends x none v ∙ ap (λ z. ends z v) is) t,
+          subst (RequestLaw R T (bytes_sent t.events) (bytes_given t.events)) is (first_law R T (bytes_given t.events) (bytes_sent t.events) x f none),
+        );
+        stores =
+            record {
+              holds = held;
+              law = stored_law R T (decode (bytes_given t.events)).packets;
+              shows = holds_shows _ rows text rows text held;
+              counts = λ b q. absurd (count b q);
+            };
       }
+    where
+      bare_ends : (x : Outcome) → out x ≡ None → (v : Wire) → then (ends x v) next ≡ ends (bare x) v
+      bare_ends (Ok (Ok None)) none v = refl
+      bare_ends (Ok (Ok (Some d))) none v = let z : ◌≡◌ {A = ℕ} 0 1 = cc in absurd (omega arith)
+      bare_ends (Ok (Err n)) none v = refl
+      bare_ends (Err e) none v = refl
 
   module _ (text₁ : List ℕ) where
     pub no_request : ReadsCommand text w p a (Ok None) w₁ a₁ text₁ → ReadsRequest rows text w p a (Ok None) w₁ a₁ rows text₁
     no_request h =
         subst (λ s. ReadsRequest rows text w p a (Ok None) w₁ a₁ rows s) (sym h.lies)
-        (said_first (Ok (Ok None)) h.talks (Ok None) (λ v. refl) refl (λ q e. let z : ◌≡◌ {A = ℕ} 0 1 = cc in omega arith) (λ e. refl) (λ e. refl) (λ b e. let z : ◌≡◌ {A = ℕ} 0 1 = cc in omega arith))
-
-    refused_first : (n : ℕ) (e : RequestFault) → Talks (read_command (length text)) w p a (Ok (Err n)) w₁ a₁ → refused {A = Option Request} e ≡ Ok (Err n) → ReadsRequest rows text w p a (Err e) w₁ a₁ rows text
-    refused_first n e t is =
-        said_first (Ok (Err n)) t (Err e) (λ v. ap (λ y. ends y v) (sym is)) refl (λ q f. let z : ◌≡◌ {A = ℕ} 0 1 = cc in omega arith) (λ f. let z : ◌≡◌ {A = ℕ} 0 1 = cc in absurd (omega arith))
-        (λ f. let z : ◌≡◌ {A = ℕ} 0 1 = cc in absurd (omega arith)) (λ b f. let z : ◌≡◌ {A = ℕ} 0 1 = cc in omega arith)
+        (said_first (Ok (Ok None)) h.talks refl (Ok None) refl (λ b e. let z : ◌≡◌ {A = ℕ} 0 1 = cc in omega arith))
 
     error_first : (e : RequestFault) → Talks (read_command (length text)) w p a (refused e) w₁ a₁ → ReadsRequest rows text w p a (Err e) w₁ a₁ rows text
-    error_first (Line f) t =
-        said_first (Err f) t (Err (Line f)) (λ v. refl) refl (λ q e. let z : ◌≡◌ {A = ℕ} 0 1 = cc in omega arith) (λ e. let z : ◌≡◌ {A = ℕ} 0 1 = cc in absurd (omega arith))
-        (λ e. let z : ◌≡◌ {A = ℕ} 0 1 = cc in absurd (omega arith)) (λ b e. let z : ◌≡◌ {A = ℕ} 0 1 = cc in omega arith)
-    error_first Command t = refused_first 39 Command t refl
-    error_first Metadata t = refused_first 40 Metadata t refl
-    error_first Full t = refused_first 7 Full t refl
+    error_first e t =
+        let s = refused_same e in
+        said_first (refused e) t s.0 (Err e) s.1 (λ b f. let z : ◌≡◌ {A = ℕ} 0 1 = cc in omega arith)
+      where
+        refused_same : (e : RequestFault) → (out (refused e) ≡ None) × (bare (refused e) ≡ refused e)
+        refused_same (Line f) = (refl, refl)
+        refused_same Command = (refl, refl)
+        refused_same Metadata = (refl, refl)
+        refused_same Full = (refl, refl)
 
     pub first_error : (r₁ : Result (Option ℕ) RequestFault) → ReadsCommand text w p a r₁ w₁ a₁ text₁ → (e : RequestFault) → r₁ ≡ Err e → (r : Result (Option Asked) RequestFault) → r ≡ Err e
         → ReadsRequest rows text w p a r w₁ a₁ rows text₁
@@ -173,7 +186,7 @@ module _ (rows : List MetaRow) (text : List ℕ) (w : Sight) (p : ℕ) (a : Area
             let law : RequestLaw R T (bytes_sent (t₂.events ++ t₁.events)) (bytes_given (t₂.events ++ t₁.events)) (Answer r₂) =
             subst (λ xs. RequestLaw R T xs (bytes_given (t₂.events ++ t₁.events)) (Answer r₂)) (sym sent)
             (subst (λ xs. RequestLaw R T (bytes_sent t₁.events ++ bytes_sent t₂.events) xs (Answer r₂)) (sym given)
-            (told_law R T c (bytes_sent t₁.events) given₁ f.0 f.1 (first_given T t₁).silent f.3 (bytes_sent t₂.events) given₂ (Answer r₂) told)) in
+            (told_law R T c (bytes_sent t₁.events) given₁ f.0 f.1 (first_given T t₁).silent f.2 f.3 (bytes_sent t₂.events) given₂ (Answer r₂) told)) in
             let stored : stored_in R T (decode (bytes_given (t₂.events ++ t₁.events))).packets ≡ q =
             ap (λ xs. stored_in R T (decode xs).packets) given
             ∙ ap (λ (d : Decoded). stored_in R T d.packets) (decode_append given₁ given₂ (f.0 ∷ []) f.1)
@@ -189,6 +202,7 @@ module _ (rows : List MetaRow) (text : List ℕ) (w : Sight) (p : ℕ) (a : Area
               stores =
                   record {
                     holds = subst (λ x. Holds x rows text rows' text') (sym u.2) held;
+                    law = stored_law R T (decode (bytes_given u.0.events)).packets;
                     shows = subst (λ (x : Request). request_at rows' text' (counts_of x) ≡ x) (sym u.2) (holds_shows q rows text rows' text' held);
                     counts = λ b e.
                         let k = count b e in

@@ -1,35 +1,22 @@
 -- What is given of a request's first line, and what that tells.
-use Rattle.std.proofs.Common.{◌≡◌, ℕ, ◌≤◌, Bool, true, false, cond, leb, ◌⊎◌, List, [], ◌∷◌, ◌++◌, map, length, Some, None, Ok, Err, codes, Option, Result, sym, refl, ap, ◌∙◌, subst, inl, inr, ⊎_elim, arith}
-use Rattle.std.proofs.lemmas.Bool.{leb-true}
+use Rattle.std.proofs.Common.{◌≡◌, ℕ, ◌<◌, ◌≤◌, Bool, true, false, cond, leb, ◌⊎◌, List, [], ◌∷◌, ◌++◌, length, Some, None, Ok, Err, codes, Option, Result, sym, refl, ap, ◌∙◌, subst, inl, inr, ⊎_elim, arith}
+use Rattle.std.proofs.lemmas.Bool.{leb-true, leb-false}
 use Rattle.packetline.specs.Lines.{after_prefix}
 use Rattle.packetline.specs.Packets.{Pkt, flush, delimiter, response_end, line, Decoded, decode, packets}
 use Rattle.packetline.specs.Text.{utf8, trim_end, text_of}
-use Rattle.packetline.specs.declared.text.Error.TheVariants.{NotUtf8}
+use Rattle.host.specs.declared.fault.Fault.TheVariants.{Closed, Broken, Other}
 use Rattle.host.specs.declared.fault.LineFault.{LineFault}
-use Rattle.host.specs.declared.fault.LineFault.TheVariants.{Text}
+use Rattle.host.specs.declared.fault.LineFault.TheVariants.{Host, Packet, Marker, Text}
+use Rattle.packetline.specs.declared.text.Error.TheVariants.{NotUtf8}
 use Rattle.host.specs.Worlds.{process}
 use Rattle.host.specs.Talk.{Event, bytes_sent, bytes_given, Areas, Wire, wire, Got, got, lost, then, ends, read, wanted, texted, text_in, Sight, Talks}
 use Rattle.process.specs.Given.{ReadsAs}
-use Rattle.process.proofs.LineKinds.{after_some, after_append}
+use Rattle.process.proofs.LineKinds.{After, after_law}
 use Rattle.process.proofs.Passes.{Passed, OneRead, NoneRead, whole_passes, Since, Until, since_told, until_told}
-use Rattle.process.proofs.Tellings.{reads_same}
 use Rattle.requests.specs.Stored.{Request, request}
-use Rattle.requests.specs.Requests.{with_command, command_in, unasked, begun, read_command, Asks, GivesMarker, RequestLaw, kept_of, text_kept, command_kept, behind_kept, stored_in}
+use Rattle.requests.specs.Requests.{with_command, command_in, unasked, begun, read_command, CommandIs, RequestLaw, kept_of, text_kept, command_kept, behind_kept, stored_in}
 use Rattle.requests.proofs.FirstLines.{never}
-
-abbrev pub Outcome : Type 0
-Outcome = Result (Result (Option (List ℕ)) ℕ) LineFault
-
--- what a first packet comes to
-abbrev judged_text : ℕ → Result (List ℕ) ℕ → Outcome
-judged_text room (Ok t) = Ok (command_in room (Some t))
-judged_text room (Err n) = Err (Text NotUtf8)
-
-abbrev pub judged : ℕ → Pkt → Outcome
-judged room flush = Ok (command_in room None)
-judged room delimiter = Ok (Ok None)
-judged room response_end = Ok (Ok None)
-judged room (line l) = judged_text room (text_of l)
+use Rattle.requests.proofs.Leading.{Outcome, judged_text, judged, Verdict, lead_by, leads, Led, Means, law_by}
 
 abbrev first : ℕ → Got Pkt → Got (Result (Option (List ℕ)) ℕ)
 first room (got p v) = ends (judged room p) v
@@ -85,19 +72,18 @@ fits_is : (b : Bool) (d c : List ℕ) (n : ℕ) → ◌≡◌ {A = Result (Optio
 fits_is true d c n e = let h : d ≡ c = cc in (refl, h)
 fits_is false d c n e = let z : ◌≡◌ {A = ℕ} 0 1 = cc in absurd (omega arith)
 
-command_is : (room : ℕ) (o : Option (List ℕ)) (c : List ℕ) → with_command room o ≡ Ok (Some c) → (o ≡ Some c) × (length c ≤ room)
-command_is room None c e = let z : ◌≡◌ {A = ℕ} 0 1 = cc in absurd (omega arith)
-command_is room (Some d) c e =
-    let h = fits_is (leb (length d) room) d c 7 e in
-    let l : length d ≤ room = leb-true (length d) room h.0 in
-    (ap (λ x. Some x) h.1, subst (λ x. length x ≤ room) h.1 l)
+command_is : (room : ℕ) (p t : List ℕ) (o : Option (List ℕ)) (c : List ℕ) → After p t o → with_command room o ≡ Ok (Some c) → (t ≡ p ++ c) × (length c ≤ room)
+command_is room p t None c h e = let z : ◌≡◌ {A = ℕ} 0 1 = cc in absurd (omega arith)
+command_is room p t (Some d) c h e =
+    let k = fits_is (leb (length d) room) d c 7 e in
+    let l : length d ≤ room = leb-true (length d) room k.0 in
+    (sym h ∙ ap (λ x. p ++ x) k.1, subst (λ x. length x ≤ room) k.1 l)
 
 -- a packet that gives a command
 pub record Commands (room : ℕ) (p : Pkt) (c : List ℕ) : Type 0 where
   pub first : List ℕ
   pub is : p ≡ line first
-  pub text : utf8 first ≡ true
-  pub commands : trim_end first ≡ codes "command=" ++ c
+  pub commands : CommandIs first c
   pub room_for : length c ≤ room
 
 commands_of : (room : ℕ) (p : Pkt) (c : List ℕ) → judged room p ≡ Ok (Ok (Some c)) → Commands room p c
@@ -106,8 +92,8 @@ commands_of room delimiter c e = let z : ◌≡◌ {A = ℕ} 0 1 = cc in absurd 
 commands_of room response_end c e = let z : ◌≡◌ {A = ℕ} 0 1 = cc in absurd (omega arith)
 commands_of room (line l) c e =
     let t = text_of_is (utf8 l) room (trim_end l) c 22 e in
-    let k = command_is room (after_prefix (codes "command=") (trim_end l)) c t.1 in
-    record { first = l; is = refl; text = t.0; commands = after_some (codes "command=") (trim_end l) c k.0; room_for = k.1 }
+    let k = command_is room (codes "command=") (trim_end l) (after_prefix (codes "command=") (trim_end l)) c (after_law (codes "command=") (trim_end l)) t.1 in
+    record { first = l; is = refl; commands = record { text = t.0; spells = k.0 }; room_for = k.1 }
 
 -- one packet was given, which gives the command
 pub first_command : (room : ℕ) (sent given c : List ℕ) → FirstGiven room sent given (Ok (Ok (Some c))) → (p : Pkt) × ReadsAs given (p ∷ []) × (judged room p ≡ Ok (Ok (Some c))) × Commands room p c
@@ -119,89 +105,82 @@ first_command room sent given c f =
 
 -- No command
 
--- nothing asks with one packet or none
-asks_more : (rows room : ℕ) (sent given : List ℕ) (x : Outcome) → FirstGiven room sent given x → (q : Request) → Asks rows room given q → ⊥
-asks_more rows room sent given x f q a =
-    ⊎_elim
-    (λ (h : (p : Pkt) × ReadsAs given (p ∷ []) × (x ≡ judged room p)).
-    no_end (map line a.lines) (let e = reads_same given (h.0 ∷ []) (line a.first ∷ (map line a.lines ++ flush ∷ [])) h.1 a.are in let k : [] ≡ map line a.lines ++ flush ∷ [] = cc in k))
-    (λ (h : ((decode given).packets ≡ []) × ((e : LineFault) × (x ≡ unasked e))). none (sym h.0 ∙ ap (λ (d : Decoded). d.packets) a.are))
-    f.from
-  where
-    no_end : (ps : List Pkt) → [] ≡ ps ++ flush ∷ [] → ⊥
-    no_end [] e = let z : ◌≡◌ {A = ℕ} 0 1 = cc in omega arith
-    no_end (p ∷ ps) e = let z : ◌≡◌ {A = ℕ} 0 1 = cc in omega arith
-
-    none : {p : Pkt} {ps : List Pkt} → [] ≡ p ∷ ps → ⊥
-    none e = let z : ◌≡◌ {A = ℕ} 0 1 = cc in omega arith
-
-not_none : (room : ℕ) (o : Option (List ℕ)) → with_command room o ≡ Ok None → ⊥
-not_none room None e = let z : ◌≡◌ {A = ℕ} 0 1 = cc in omega arith
-not_none room (Some d) e = cond_none (leb (length d) room) d 7 e
-  where
-    cond_none : (b : Bool) (d : List ℕ) (n : ℕ) → ◌≡◌ {A = Result (Option (List ℕ)) ℕ} (cond b (Ok (Some d)) (Err n)) (Ok None) → ⊥
-    cond_none true d n e = let z : ◌≡◌ {A = ℕ} 0 1 = cc in omega arith
-    cond_none false d n e = let z : ◌≡◌ {A = ℕ} 0 1 = cc in omega arith
-
-no_text : (room : ℕ) (r : Result (List ℕ) ℕ) → judged_text room r ≡ Ok (Ok None) → ⊥
-no_text room (Ok t) e = let h : command_in room (Some t) ≡ Ok None = cc in not_none room (after_prefix (codes "command=") t) h
-no_text room (Err n) e = let z : ◌≡◌ {A = ℕ} 0 1 = cc in omega arith
-
-marker_is : (room : ℕ) (p : Pkt) → judged room p ≡ Ok (Ok None) → (p ≡ delimiter) ⊎ (p ≡ response_end)
-marker_is room flush e = let z : ◌≡◌ {A = ℕ} 0 1 = cc in absurd (omega arith)
-marker_is room delimiter e = inl refl
-marker_is room response_end e = inr refl
-marker_is room (line l) e = absurd (no_text room (text_of l) e)
-
-one_marker : (given : List ℕ) (p : Pkt) → ReadsAs given (p ∷ []) → (p ≡ delimiter) ⊎ (p ≡ response_end) → GivesMarker given
-one_marker given p reads m =
-    ⊎_elim
-    (λ (e : p ≡ delimiter). inl (subst (λ x. ReadsAs given (x ∷ [])) e reads))
-    (λ (e : p ≡ response_end). inr (subst (λ x. ReadsAs given (x ∷ [])) e reads))
-    m
-
-tells_none : (room : ℕ) (sent given : List ℕ) (x : Outcome) → FirstGiven room sent given x → x ≡ Ok (Ok None) → GivesMarker given ⊎ ((decode given).packets ≡ [])
-tells_none room sent given x f e =
-    ⊎_elim
-    (λ (h : (p : Pkt) × ReadsAs given (p ∷ []) × (x ≡ judged room p)). inl (one_marker given h.0 h.1 (marker_is room h.0 (sym h.2 ∙ e))))
-    (λ (h : ((decode given).packets ≡ []) × ((e : LineFault) × (x ≡ unasked e))). inr h.0)
-    f.from
-
-marker_tells : (room : ℕ) (sent given : List ℕ) (x : Outcome) → FirstGiven room sent given x → (m : Pkt) → judged room m ≡ Ok (Ok None) → ReadsAs given (m ∷ []) → x ≡ Ok (Ok None)
-marker_tells room sent given x f m is reads =
-    ⊎_elim
-    (λ (h : (p : Pkt) × ReadsAs given (p ∷ []) × (x ≡ judged room p)).
-    let e = reads_same given (h.0 ∷ []) (m ∷ []) h.1 reads in
-    let same : h.0 ≡ m = cc in
-    h.2 ∙ ap (judged room) same ∙ is)
-    (λ (h : ((decode given).packets ≡ []) × ((e : LineFault) × (x ≡ unasked e))).
-    let e : [] ≡ m ∷ [] = sym h.0 ∙ ap (λ (d : Decoded). d.packets) reads in
-    let z : ◌≡◌ {A = ℕ} 0 1 = cc in
-    absurd (omega arith))
-    f.from
-
--- a call that says no more than its first line has its law
-pub first_law : (rows room : ℕ) (sent given : List ℕ) (x : Outcome) → FirstGiven room sent given x → (r : Result (Result (Option Request) ℕ) LineFault)
-    → ((q : Request) → r ≡ Ok (Ok (Some q)) → ⊥) → (r ≡ Ok (Ok None) → x ≡ Ok (Ok None)) → (x ≡ Ok (Ok None) → r ≡ Ok (Ok None)) → RequestLaw rows room sent given r
-first_law rows room sent given x f r other to back =
-    record {
-      silent = f.silent;
-      only = λ q e. absurd (other q e);
-      all = λ q a. absurd (asks_more rows room sent given x f q a);
-      none = λ e. tells_none room sent given x f (to e);
-      all_markers = λ m.
-          back
-          (⊎_elim
-          (λ (h : ReadsAs given (delimiter ∷ [])). marker_tells room sent given x f delimiter refl h)
-          (λ (h : ReadsAs given (response_end ∷ [])). marker_tells room sent given x f response_end refl h)
-          m);
-    }
-
--- What is stored then
-
 abbrev pub out : Outcome → Option (List ℕ)
 out (Ok r) = kept_of r
 out (Err e) = None
+
+-- what a call answers that says no more than its first line
+abbrev pub bare : Outcome → Result Verdict LineFault
+bare (Ok (Ok None)) = Ok (Ok None)
+bare (Ok (Ok (Some c))) = Ok (Ok None)
+bare (Ok (Err n)) = Ok (Err n)
+bare (Err e) = Err e
+
+module _ (rows room : ℕ) (given : List ℕ) where
+  lead_bare : (x : Outcome) → out x ≡ None → leads rows room (decode given).packets ≡ lead_by rows room x [] → Led rows room given (bare x)
+  lead_bare (Ok (Ok None)) none h = inr h
+  lead_bare (Ok (Ok (Some c))) none h = let z : ◌≡◌ {A = ℕ} 0 1 = cc in absurd (omega arith)
+  lead_bare (Ok (Err n)) none h = h
+  lead_bare (Err e) none h = h
+
+  none_led : (e : LineFault) → leads rows room (decode given).packets ≡ None → Led rows room given (bare (unasked e))
+  none_led (Host Closed) h = inl h
+  none_led (Host Broken) h = h
+  none_led (Host Other) h = h
+  none_led (Packet e) h = h
+  none_led Marker h = inl h
+  none_led (Text e) h = h
+
+  none_means : (e : LineFault) → (decode given).packets ≡ [] → Means rows room given (bare (unasked e))
+  none_means (Host Closed) h = inr h
+  none_means (Host Broken) h = tt
+  none_means (Host Other) h = tt
+  none_means (Packet e) h = tt
+  none_means Marker h = inr h
+  none_means (Text e) h = tt
+
+  module _ (l : List ℕ) (reads : ReadsAs given (line l ∷ [])) where
+    room_means : (b : Bool) (c : List ℕ) → CommandIs l c → leb (length c) room ≡ b → out (Ok (cond b (Ok (Some c)) (Err 7))) ≡ None → Means rows room given (bare (Ok (cond b (Ok (Some c)) (Err 7))))
+    room_means true c k e none = let z : ◌≡◌ {A = ℕ} 0 1 = cc in absurd (omega arith)
+    room_means false c k e none = let long : room < length c = leb-false (length c) room e in inr (inr (refl, inl (l, c, reads, k, long)))
+
+    command_means : (t : utf8 l ≡ true) (o : Option (List ℕ)) → After (codes "command=") (trim_end l) o → out (Ok (with_command room o)) ≡ None → Means rows room given (bare (Ok (with_command room o)))
+    command_means t None h none = inl (refl, inr (l, reads, t, h))
+    command_means t (Some c) h none = room_means (leb (length c) room) c (record { text = t; spells = sym h }) refl none
+
+    text_means : (b : Bool) → utf8 l ≡ b → out (judged_text room (cond b (Ok (trim_end l)) (Err 22))) ≡ None → Means rows room given (bare (judged_text room (cond b (Ok (trim_end l)) (Err 22))))
+    text_means true t none = command_means t (after_prefix (codes "command=") (trim_end l)) (after_law (codes "command=") (trim_end l)) none
+    text_means false t none = tt
+
+  judged_means : (p : Pkt) → ReadsAs given (p ∷ []) → out (judged room p) ≡ None → Means rows room given (bare (judged room p))
+  judged_means flush reads none = inl (refl, inl reads)
+  judged_means delimiter reads none = inl (inl reads)
+  judged_means response_end reads none = inl (inr reads)
+  judged_means (line l) reads none = text_means l reads (utf8 l) refl none
+
+  module _ (sent : List ℕ) (x : Outcome) (f : FirstGiven room sent given x) (none : out x ≡ None) where
+    first_led : Led rows room given (bare x)
+    first_led =
+        ⊎_elim
+        (λ (h : (p : Pkt) × ReadsAs given (p ∷ []) × (x ≡ judged room p)).
+        lead_bare x none (ap (λ (d : Decoded). leads rows room d.packets) h.1 ∙ ap (λ y. lead_by rows room y []) (sym h.2)))
+        (λ (h : ((decode given).packets ≡ []) × ((e : LineFault) × (x ≡ unasked e))).
+        subst (λ y. Led rows room given (bare y)) (sym h.1.1) (none_led h.1.0 (ap (leads rows room) h.0)))
+        f.from
+
+    first_means : Means rows room given (bare x)
+    first_means =
+        ⊎_elim
+        (λ (h : (p : Pkt) × ReadsAs given (p ∷ []) × (x ≡ judged room p)).
+        subst (λ y. Means rows room given (bare y)) (sym h.2) (judged_means h.0 h.1 (ap out (sym h.2) ∙ none)))
+        (λ (h : ((decode given).packets ≡ []) × ((e : LineFault) × (x ≡ unasked e))). subst (λ y. Means rows room given (bare y)) (sym h.1.1) (none_means h.1.0 h.0))
+        f.from
+
+    -- a call that says no more than its first line has its law
+    pub first_law : RequestLaw rows room sent given (bare x)
+    first_law = law_by rows room given sent (bare x) f.silent first_led first_means
+
+-- What is stored then
 
 text_out : (room : ℕ) (r : Result (List ℕ) ℕ) → text_kept room r ≡ out (judged_text room r)
 text_out room (Ok t) = refl

@@ -1,7 +1,7 @@
 -- What is stored of a request, pair by pair.
 use Rattle.std.proofs.Common.{◌≡◌, ℕ, ◌+◌, ◌-◌, ◌<◌, ◌≤◌, true, false, ltb, leb, ◌&&◌, ◌⊎◌, List, [], ◌∷◌, ◌++◌, map, length, take, drop, set, Some, None, Ok, Err, Option, Result, sym, refl, ap, ◌∙◌, subst, inl, inr, ⊎_elim, arith}
 use Rattle.std.proofs.lemmas.List.{append-nil, append_assoc, length-append, length-drop, take-append-drop, take_at, drop_at}
-use Rattle.std.proofs.lemmas.Bool.{and_from, and_left, and_right, lt-ltb, le-ltb, le-leb, lt-leb}
+use Rattle.std.proofs.lemmas.Bool.{both_ways, cases_lt, and_from, and_left, and_right, lt-ltb, le-ltb, le-leb, lt-leb}
 use Rattle.std.specs.Result.{result_ok}
 use Rattle.slices.specs.declared.part.Part.{Part}
 use Rattle.slices.specs.declared.rows.Full.{Full}
@@ -12,17 +12,28 @@ use Rattle.slices.proofs.Pushes.{rows_over_set, took, refused}
 use Rattle.packetline.specs.Packets.{over}
 use Rattle.requests.specs.declared.asked.Asked.{Asked}
 use Rattle.requests.specs.declared.asked.MetaRow.{MetaRow}
+use Rattle.requests.specs.Requests.{NoSpace}
 use Rattle.requests.specs.Stored.{Pair, Request, request, and_pair, meta_bytes, bytes_of, used, row_of, rows_of, has_space, counts_of, pair_at, request_at, Holds, Keeping, LaysBehind, PairKept, StoresPair}
 
 -- One pair more
 
+pub meta_bytes_append : (ps qs : List Pair) → meta_bytes (ps ++ qs) ≡ meta_bytes ps ++ meta_bytes qs
+meta_bytes_append [] qs = refl
+meta_bytes_append (p ∷ ps) qs =
+    ap (λ xs. p.0 ++ (p.1 ++ xs)) (meta_bytes_append ps qs)
+    ∙ ap (λ xs. p.0 ++ xs) (sym (append_assoc p.1 (meta_bytes ps) (meta_bytes qs)))
+    ∙ sym (append_assoc p.0 (p.1 ++ meta_bytes ps) (meta_bytes qs))
+
 meta_bytes_push : (ps : List Pair) (p : Pair) → meta_bytes (ps ++ p ∷ []) ≡ (meta_bytes ps ++ p.0) ++ p.1
-meta_bytes_push [] p = ap (λ xs. p.0 ++ xs) (append-nil p.1)
-meta_bytes_push (q ∷ ps) p =
-    ap (λ xs. q.0 ++ (q.1 ++ xs)) (meta_bytes_push ps p)
-    ∙ ap (λ xs. q.0 ++ xs) (sym (append_assoc q.1 (meta_bytes ps ++ p.0) p.1) ∙ ap (λ xs. xs ++ p.1) (sym (append_assoc q.1 (meta_bytes ps) p.0)))
-    ∙ sym (append_assoc q.0 ((q.1 ++ meta_bytes ps) ++ p.0) p.1)
-    ∙ ap (λ xs. xs ++ p.1) (sym (append_assoc q.0 (q.1 ++ meta_bytes ps) p.0))
+meta_bytes_push ps p =
+    meta_bytes_append ps (p ∷ []) ∙ ap (λ xs. meta_bytes ps ++ (p.0 ++ xs)) (append-nil p.1) ∙ sym (append_assoc (meta_bytes ps) p.0 p.1)
+
+-- more pairs take more room
+pub used_more : (c : List ℕ) (ps qs : List Pair) → used (request c (ps ++ qs)) ≡ used (request c ps) + length (meta_bytes qs)
+used_more c ps qs =
+    ap (λ xs. length (c ++ xs)) (meta_bytes_append ps qs)
+    ∙ ap length (sym (append_assoc c (meta_bytes ps) (meta_bytes qs)))
+    ∙ length-append (c ++ meta_bytes ps) (meta_bytes qs)
 
 pub bytes_push : (q : Request) (p : Pair) → bytes_of (and_pair q p) ≡ (bytes_of q ++ p.0) ++ p.1
 bytes_push q p =
@@ -95,6 +106,30 @@ holds_shows q rows text rows' text' h =
     ap (map (pair_at text')) held ∙ ap (λ (t : List ℕ). map (pair_at t) new) lies ∙ pairs_shown (length q.command) q.command q.pairs rest refl in
     ap (λ (c : List ℕ). request c (map (pair_at text') (take (length q.pairs) rows'))) command ∙ ap (request q.command) pairs
 
+-- Space
+
+pub space_there : (rows room : ℕ) (q : Request) (p : Pair) → length q.pairs < rows → used (and_pair q p) ≤ room → has_space rows room q p ≡ true
+space_there rows room q p r u =
+    and_from (ltb (length q.pairs) rows) (leb (used (and_pair q p)) room) (lt-ltb (length q.pairs) rows r) (le-leb (used (and_pair q p)) room u)
+
+pub space_not : (rows room : ℕ) (q : Request) (p : Pair) → NoSpace rows room q p → has_space rows room q p ≡ false
+space_not rows room q p why =
+    ⊎_elim
+    (λ (l : rows ≤ length q.pairs). and_left (ltb (length q.pairs) rows) (leb (used (and_pair q p)) room) (le-ltb (length q.pairs) rows l))
+    (λ (l : room < used q + length p.0 + length p.1). and_right (ltb (length q.pairs) rows) _ (lt-leb (used (and_pair q p)) room (omega (arith, used_push q p))))
+    why
+
+pub space_none : (rows room : ℕ) (q : Request) (p : Pair) → has_space rows room q p ≡ false → NoSpace rows room q p
+space_none rows room q p e =
+    ⊎_elim
+    (λ (r : length q.pairs < rows).
+    ⊎_elim
+    (λ (l : room < used (and_pair q p)). inr (omega (arith, used_push q p)))
+    (λ (l : used (and_pair q p) ≤ room). absurd (both_ways (has_space rows room q p) e (space_there rows room q p r l)))
+    (cases_lt room (used (and_pair q p))))
+    (λ (r : rows ≤ length q.pairs). inl r)
+    (cases_lt (length q.pairs) rows)
+
 -- Storing a pair
 
 module _ (at : ℕ) (rows : List MetaRow) (count : ℕ) (text k v : List ℕ) where
@@ -108,19 +143,19 @@ module _ (at : ℕ) (rows : List MetaRow) (count : ℕ) (text k v : List ℕ) wh
     -- one that finds no row or no room
     no_space : (length text < at + length k + length v) ⊎ (length rows ≤ count) → has_space (length space) (length area) q pair ≡ false
     no_space why =
-        let u = used_push q pair in
         let s = sizes in
-        ⊎_elim
-        (λ (l : length text < at + length k + length v). and_right (ltb (length q.pairs) (length space)) _ (lt-leb (used (and_pair q pair)) (length area) (omega (arith, was.place))))
-        (λ (l : length rows ≤ count). and_left _ (leb (used (and_pair q pair)) (length area)) (le-ltb (length q.pairs) (length space) (omega (arith, was.counted)))) why
+        space_not (length space) (length area) q pair
+        (⊎_elim
+        (λ (l : length text < at + length k + length v). inr (omega (arith, was.place)))
+        (λ (l : length rows ≤ count). inl (omega (arith, was.counted)))
+        why)
 
     -- one that finds both
     some_space : at + length k + length v ≤ length text → count < length rows → has_space (length space) (length area) q pair ≡ true
     some_space l m =
         let u = used_push q pair in
         let s = sizes in
-        and_from (ltb (length q.pairs) (length space)) (leb (used (and_pair q pair)) (length area)) (lt-ltb (length q.pairs) (length space) (omega (arith, was.counted)))
-        (le-leb (used (and_pair q pair)) (length area) (omega (arith, was.place)))
+        space_there (length space) (length area) q pair (omega (arith, was.counted)) (omega (arith, was.place))
 
     keeping_more : (text₁ text₂ : List ℕ) → LaysBehind at text k text₁ → LaysBehind (at + length k) text₁ v text₂ → at + length k + length v ≤ length text → count < length rows
         → Keeping (and_pair q pair) space area (set rows count (row_of at pair)) (count + 1) text₂ (at + length k + length v)
@@ -159,8 +194,8 @@ module _ (at : ℕ) (rows : List MetaRow) (count : ℕ) (text k v : List ℕ) wh
         let more = keeping_more q space area was text₁ text₂ first second room t.0 in (
           some_space q space area was room t.0,
           subst (λ n. Keeping (and_pair q pair) space area rows' count' text₂ n) (sym be)
-          (subst (λ l. Keeping (and_pair q pair) space area l count' text₂ (at + length k + length v)) (sym t.1)
-          (subst (λ i. Keeping (and_pair q pair) space area (set rows count (row_of at pair)) i text₂ (at + length k + length v)) (sym t.2) more)),
+              (subst (λ l. Keeping (and_pair q pair) space area l count' text₂ (at + length k + length v)) (sym t.1)
+              (subst (λ i. Keeping (and_pair q pair) space area (set rows count (row_of at pair)) i text₂ (at + length k + length v)) (sym t.2) more)),
         )
 
     pub pair_without_row : (o : Option ℕ) → o ≡ None → IsPush rows count (row_of at pair) (told (λ u. u) handed_back r) rows' count' → result_ok r ≡ None

@@ -1,8 +1,8 @@
 -- A request: a command in a line of text, metadata in lines of bytes, and a flush.
-use Rattle.std.specs.Prelude.{◌≡◌, ℕ, ◌≤◌, true, cond, ◌⊎◌, List, [], ◌∷◌, ◌++◌, map, length, take, Some, None, Ok, Err, codes, Option, Result, nat_le}
+use Rattle.std.specs.Prelude.{◌≡◌, ◌↔◌, ℕ, ◌+◌, ◌<◌, ◌≤◌, true, cond, ◌⊎◌, List, [], ◌∷◌, ◌++◌, map, length, take, Some, None, Ok, Err, codes, Option, Result, nat_le}
 use Rattle.std.specs.Option.{option_map}
 use Rattle.packetline.specs.Packets.{Pkt, flush, delimiter, response_end, line, decode, over}
-use Rattle.packetline.specs.Lines.{after_prefix}
+use Rattle.packetline.specs.Lines.{after_prefix, NotAfter}
 use Rattle.packetline.specs.Metadata.{trim_both, pair_of, IsPair}
 use Rattle.packetline.specs.Text.{utf8, trim_end, text_of}
 use Rattle.host.specs.declared.fault.Fault.TheVariants.{Closed, Broken, Other}
@@ -90,30 +90,60 @@ AreMeta [] (p ∷ ps) = ⊥
 AreMeta (l ∷ ls) [] = ⊥
 AreMeta (l ∷ ls) (p ∷ ps) = IsPair (trim_both l) (Some p) × AreMeta ls ps
 
--- What was given decodes to a line, lines and a flush, with nothing left; the first is text, and without the white space at its end it is `command=` and
--- the command; each other is its pair, in order; and all of it has space.
-pub record Asks (rows room : ℕ) (given : List ℕ) (q : Request) : Type 0 where
+-- the line of a command: text, and without the white space at its end `command=` and the command
+pub record CommandIs (l c : List ℕ) : Type 0 where
+  pub text : utf8 l ≡ true
+  pub spells : trim_end l ≡ codes "command=" ++ c
+
+-- What was given decodes to a line, lines, and a packet x behind them, with nothing left; the first line is the command's, each other is its pair, in
+-- order; and all of it has space.
+pub record Begins (rows room : ℕ) (given : List ℕ) (q : Request) (x : Pkt) : Type 0 where
   pub first : List ℕ
   pub lines : List (List ℕ)
-  pub are : ReadsAs given (line first ∷ (map line lines ++ flush ∷ []))
-  pub text : utf8 first ≡ true
-  pub commands : trim_end first ≡ codes "command=" ++ q.command
+  pub are : ReadsAs given (line first ∷ (map line lines ++ x ∷ []))
+  pub commands : CommandIs first q.command
   pub metadata : AreMeta lines q.pairs
   pub rows_for : length q.pairs ≤ rows
   pub room_for : used q ≤ room
+
+-- the lines of a request, and a flush
+abbrev pub Asks : ℕ → ℕ → List ℕ → Request → Type 0
+Asks rows room given q = Begins rows room given q flush
+
+-- one pair more finds no row or no room
+abbrev pub NoSpace : ℕ → ℕ → Request → Pair → Type 0
+NoSpace rows room q p = (rows ≤ length q.pairs) ⊎ (room < used q + length p.0 + length p.1)
 
 -- what was given is one marker
 abbrev pub GivesMarker : List ℕ → Type 0
 GivesMarker given = ReadsAs given (delimiter ∷ []) ⊎ ReadsAs given (response_end ∷ [])
 
--- A request is answered exactly if what was given asks it; nothing was sent. That nothing is asked is answered where one marker was given, and else only
--- where no whole packet was.
+-- a flush, or one line of text that does not begin with `command=`
+abbrev pub GivesNoCommand : List ℕ → Type 0
+GivesNoCommand given = ReadsAs given (flush ∷ []) ⊎ ((l : List ℕ) × ReadsAs given (line l ∷ []) × (utf8 l ≡ true) × NotAfter (trim_end l) (codes "command="))
+
+-- a marker behind the lines of a request, or a line without `=`
+abbrev pub GivesNoPair : ℕ → ℕ → List ℕ → Type 0
+GivesNoPair rows room given =
+    (q : Request) × (Begins rows room given q delimiter ⊎ (Begins rows room given q response_end ⊎ ((l : List ℕ) × Begins rows room given q (line l) × IsPair (trim_both l) None)))
+
+-- a command that finds no room, or behind the lines of a request a pair that finds no space
+abbrev pub GivesTooMuch : ℕ → ℕ → List ℕ → Type 0
+GivesTooMuch rows room given =
+    ((l : List ℕ) × (c : List ℕ) × ReadsAs given (line l ∷ []) × CommandIs l c × (room < length c))
+    ⊎ ((q : Request) × (l : List ℕ) × (p : Pair) × Begins rows room given q (line l) × IsPair (trim_both l) (Some p) × NoSpace rows room q p)
+
+-- A request is answered exactly if what was given asks it, and each refusal exactly if what was given is what it is for; nothing was sent. That nothing
+-- is asked is answered where one marker was given, and else only where no whole packet was.
 pub record RequestLaw (rows room : ℕ) (sent given : List ℕ) (r : Result (Result (Option Request) ℕ) LineFault) : Type 0 where
   pub silent : sent ≡ []
   pub only : (q : Request) → r ≡ Ok (Ok (Some q)) → Asks rows room given q
   pub all : (q : Request) → Asks rows room given q → r ≡ Ok (Ok (Some q))
   pub none : r ≡ Ok (Ok None) → GivesMarker given ⊎ ((decode given).packets ≡ [])
   pub all_markers : GivesMarker given → r ≡ Ok (Ok None)
+  pub no_command : (r ≡ Ok (Err (request_number Command))) ↔ GivesNoCommand given
+  pub no_pair : (r ≡ Ok (Err (request_number Metadata))) ↔ GivesNoPair rows room given
+  pub too_much : (r ≡ Ok (Err (request_number Full))) ↔ GivesTooMuch rows room given
 
 -- What is stored
 
@@ -150,10 +180,27 @@ abbrev pub stored_in : ℕ → ℕ → List Pkt → Request
 stored_in rows room [] = request [] []
 stored_in rows room (p ∷ ps) = behind_kept rows room ps (command_kept room p)
 
+-- in words: the pairs are those of the first packets, in order, up to one that is no line, is no pair, or finds no space
+pub record TakesPairs (rows room : ℕ) (ps : List Pkt) (q : Request) : Type 0 where
+  pub lines : List (List ℕ)
+  pub left : List Pkt
+  pub are : ps ≡ map line lines ++ left
+  pub metadata : AreMeta lines q.pairs
+  pub stops : (l : List ℕ) (ms : List Pkt) (p : Pair) → left ≡ line l ∷ ms → IsPair (trim_both l) (Some p) → NoSpace rows room q p
+
+-- in words: the command of the first line and pairs behind it, or nothing where there is no command or it finds no room
+abbrev pub IsStored : ℕ → ℕ → List Pkt → Request → Type 0
+IsStored rows room [] q = q ≡ request [] []
+IsStored rows room (flush ∷ ps) q = q ≡ request [] []
+IsStored rows room (delimiter ∷ ps) q = q ≡ request [] []
+IsStored rows room (response_end ∷ ps) q = q ≡ request [] []
+IsStored rows room (line l ∷ ps) q = (CommandIs l q.command × TakesPairs rows room ps q) ⊎ (((c : List ℕ) → CommandIs l c → room < length c) × (q ≡ request [] []))
+
 -- On every outcome, a fault too, rows and text area hold what is stored of the packets that were given, and who reads it there by its two numbers finds
 -- it; an answer tells these.
 pub record Stores (given : List ℕ) (rows : List MetaRow) (text : List ℕ) (r : Result (Option Asked) RequestFault) (rows' : List MetaRow) (text' : List ℕ) : Type 0 where
   pub holds : Holds (stored_in (length rows) (length text) (decode given).packets) rows text rows' text'
+  pub law : IsStored (length rows) (length text) (decode given).packets (stored_in (length rows) (length text) (decode given).packets)
   pub shows : request_at rows' text' (counts_of (stored_in (length rows) (length text) (decode given).packets)) ≡ stored_in (length rows) (length text) (decode given).packets
   pub counts : (a : Asked) → r ≡ Ok (Some a) → a ≡ counts_of (stored_in (length rows) (length text) (decode given).packets)
 

@@ -49,10 +49,7 @@ fn store(
     if key.len() + value.len() > text.len() - at {
         return None;
     }
-    let key_part = Part {
-        at,
-        len: key.len(),
-    };
+    let key_part = Part { at, len: key.len() };
     let value_part = Part {
         at: at + key.len(),
         len: value.len(),

@@ -52,7 +52,7 @@ loop-rows-preserved g c =
       same_then i.0 s.lent,
       search rules,
       λ status.
-      meta_more _ _ _ _ _ _ status _ _ _ _ _ _ (i.2 status) _ _ _ c.args.space.now c.new-rows.ensures.empty.0 _ (later i.0 s) _ c.in-Data.is _ c.front.ensures _ _ _ c.in_ok-at-in-Data.at c.in_ok-at-in-Data.ensures.keeps,
+          meta_more _ _ _ _ _ _ status _ _ _ _ _ _ (i.2 status) _ _ _ c.args.space.now c.new-rows.ensures.empty.0 _ (later i.0 s) _ c.in-Data.is _ c.front.ensures _ _ _ c.in_ok-at-in-Data.at c.in_ok-at-in-Data.ensures.keeps,
     )
 
 pub returns-in_default : goal.returns-in_default
