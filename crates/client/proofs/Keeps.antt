@@ -1,18 +1,19 @@
 -- What a listing keeps, from one line to the next.
-use Rattle.std.proofs.Common.{◌≡◌, ℕ, zero, suc, ◌+◌, ◌-◌, ◌<◌, ◌≤◌, Bool, true, false, not, cond, ltb, ◌⊎◌, List, [], ◌∷◌, ◌++◌, length, get_or, take, drop, set, is_some, Some, None, Ok, Err, Option, Result, sym, refl, ap, ◌∙◌, subst, inl, inr, ⊎_elim, arith}
+use Rattle.std.proofs.Common.{◌≡◌, ℕ, zero, suc, ◌+◌, ◌-◌, ◌<◌, ◌≤◌, Bool, true, false, not, cond, ltb, ◌⊎◌, List, [], ◌∷◌, ◌++◌, length, get_or, take, drop, set, is_some, Some, None, Option, Result, sym, refl, ap, ◌∙◌, subst, inl, inr, ⊎_elim, arith}
 use borrow.Rule.Slice.PartMut.{put_mid}
-use Rattle.std.proofs.lemmas.List.{append-nil, append_assoc, length-append, length_push, length-drop, drop-drop, drop_more, take_at, drop_at, set_at}
-use Rattle.std.proofs.lemmas.Bool.{cases_lt, lt-ltb, le-ltb, ltb-true, ltb-false, cond-true, cond-false}
+use Rattle.std.proofs.lemmas.List.{append-nil, append_assoc, length-append, length-drop, take_at, drop_at}
+use Rattle.std.proofs.lemmas.Bool.{lt-ltb, le-ltb, ltb-true, ltb-false, cond-true, cond-false}
 use Rattle.std.specs.Result.{result_ok}
 use Rattle.slices.specs.declared.rows.Full.{Full}
 use Rattle.slices.specs.Answers.{told}
-use Rattle.slices.specs.Held.{handed_back, pushed, IsPush}
+use Rattle.slices.specs.Held.{handed_back, pushed, IsPush, rows_over}
+use Rattle.slices.proofs.Pushes.{rows_over_set, took, refused}
 use Rattle.packetline.specs.Packets.{over}
+use Rattle.packetline.proofs.Laying.{over_part}
 use Rattle.host.specs.Parts.{joined}
-use Rattle.process.proofs.Laid.{laid_set, took}
 use Rattle.client.specs.declared.paths.Kept.{Kept}
 use Rattle.client.specs.declared.paths.PathRow.{PathRow}
-use Rattle.client.specs.Paths.{fitting, rows_of, rows_over, part_at, FirstOf, Stored, Keeping, KeepsPath, KeepsLine, most, listed}
+use Rattle.client.specs.Paths.{fitting, rows_of, part_at, FirstOf, Stored, Keeping, KeepsPath, KeepsLine, most, listed}
 use Rattle.client.proofs.Fits.{fits, no_fit, fitting_first, fitting_stuck, fitting_on}
 
 -- Lists that are laid over the front of others
@@ -33,15 +34,6 @@ rows_of_append at [] qs = let e : at ≡ at + 0 = omega arith in ap (λ n. rows_
 rows_of_append at (p ∷ ps) qs =
     let e : at + length p + length (joined ps) ≡ at + length (p ++ joined ps) = simp length-append (omega arith) in
     ap (λ rs. record { at = at; len = length p } ∷ rs) (rows_of_append (at + length p) ps qs ∙ ap (λ n. rows_of (at + length p) ps ++ rows_of n qs) e)
-
--- bytes behind those that are laid
-pub over_put : (xs ys area : List ℕ) → put_mid (length xs) (length ys) (over xs area) ys ≡ over (xs ++ ys) area
-over_put xs ys area =
-    ap (λ l. l ++ (ys ++ drop (length ys) (drop (length xs) (over xs area)))) (take_at xs (drop (length xs) area) (length xs) refl)
-    ∙ ap (λ l. xs ++ (ys ++ drop (length ys) l)) (drop_at xs (drop (length xs) area) (length xs) refl)
-    ∙ ap (λ l. xs ++ (ys ++ l)) (drop-drop (length ys) (length xs) area)
-    ∙ sym (append_assoc xs ys (drop (length xs + length ys) area))
-    ∙ ap (λ n. (xs ++ ys) ++ drop n area) (sym (length-append xs ys))
 
 -- the part of the text at the k-th row is the k-th path
 places_of : (at : ℕ) (front : List ℕ) (ps : List (List ℕ)) (back : List PathRow) (rest : List ℕ) (k : ℕ) → length front ≡ at → k < length ps
@@ -150,7 +142,7 @@ module _ (named : List (List ℕ)) (rows : List PathRow) (text : List ℕ) (m : 
       let rs : set rows' count row ≡ rows_over (rows_of 0 (stored ++ p ∷ [])) rows =
       ap (λ l. set l count row) was.stored_so_far.rows_are
       ∙ ap (λ i. set (rows_over (rows_of 0 stored) rows) i row) many
-      ∙ laid_set (rows_of 0 stored) rows row (omega (arith, sizes, many))
+      ∙ rows_over_set (rows_of 0 stored) rows row (omega (arith, sizes, many))
       ∙ ap (λ (i : ℕ). rows_over (rows_of 0 stored ++ record { at = i; len = length p } ∷ []) rows) place
       ∙ ap (λ l. rows_over l rows) (sym (rows_of_append 0 stored (p ∷ []))) in
       let ts : put_mid at k text' part ≡ over (joined (stored ++ p ∷ [])) text =
@@ -158,7 +150,7 @@ module _ (named : List (List ℕ)) (rows : List PathRow) (text : List ℕ) (m : 
       ∙ ap (λ i. put_mid (length (joined stored)) i text' part) ke
       ∙ ap (λ l. put_mid (length (joined stored)) (length p) text' l) pe
       ∙ ap (λ l. put_mid (length (joined stored)) (length p) l p) was.stored_so_far.text_is
-      ∙ over_put (joined stored) p text
+      ∙ over_part (joined stored) text (length (joined stored)) refl (length p) p refl
       ∙ ap (λ l. over l text) (sym (joined_push stored p)) in
       let far : at + length p ≡ length (joined (stored ++ p ∷ [])) =
       ap (λ i. i + length p) u ∙ sym (length-append (joined stored) p) ∙ ap length (sym (joined_push stored p)) in
@@ -201,15 +193,6 @@ module _ (named : List (List ℕ)) (rows : List PathRow) (text : List ℕ) (m : 
       ∙ ap (λ qs. stored ++ qs) (no_fit (length rows - length stored) (length text - length (joined stored)) p []
       (⊎_elim (λ (l : length text' < at + length p). inr (omega (arith, sizes, u))) (λ (l : length rows' ≤ count). inl (omega (arith, sizes, c))) why))
       ∙ append-nil stored)
-
--- A push
-
--- one that is refused
-refused :
-    {X : Type 0} (rows rows' : List X) (count count' : ℕ) (row : X) (r : Result (Unit {0}) (Full X))
-    → IsPush rows count row (told (λ u. u) handed_back r) rows' count' → result_ok r ≡ None → (length rows ≤ count) × (rows' ≡ rows) × (count' ≡ count)
-refused rows rows' count count' row (Ok u) h ok = let z : ◌≡◌ {A = ℕ} 0 1 = cc in absurd (omega arith)
-refused rows rows' count count' row (Err g) h ok = (omega arith, h.2, h.3)
 
 -- Storing a path
 

@@ -26,7 +26,7 @@ use Rattle.process.proofs.Passes.{AllSent, NoneGiven, send_all_passes, Told, tol
 use Rattle.process.proofs.Tellings.{NoStatusPassed}
 use Rattle.client.proofs.Keeps.{keeping_none}
 use Rattle.client.proofs.Listings.{LinesPassed, lines_passes, list_talk}
-use Rattle.process.proofs.Reading.{given_append}
+use Rattle.process.proofs.Packetwise.{given_append}
 use Rattle.client.proofs.ListNames.{named_ended, named_after}
 use Rattle.client.proofs.ListLoop.{stores_by}
 

@@ -18,7 +18,8 @@ use Rattle.process.proofs.Gathers.{Left, left_first, left_fault, left_stop, left
 use Rattle.process.proofs.Passes.{decode_empty}
 use Rattle.process.proofs.Tellings.{flushes_append}
 use Rattle.client.proofs.Keeps.{keeping_none, keeping_room, keeping_stored, keeping_full}
-use Rattle.client.proofs.ListNames.{named_push, named_flush, reads_more, reads_none}
+use Rattle.process.proofs.Packetwise.{reads_more, reads_none}
+use Rattle.client.proofs.ListNames.{named_push, named_flush}
 
 -- what was kept of the paths named in what was given
 pub stores_by : (given : List ℕ) (named : List (List ℕ)) (rows lent : List PathRow) (text : List ℕ) (notes : Kept) (rows' after : List PathRow) (count : ℕ) (text' : List ℕ) (r : Result Counts LineFault)

@@ -1,5 +1,6 @@
 -- The paths that a listing names, and where they are stored.
 use Rattle.std.specs.Prelude.{◌≡◌, ℕ, ◌+◌, ◌-◌, ◌^◌, ◌<◌, ◌≤◌, min, cond, ◌&&◌, ◌⊎◌, List, [], ◌∷◌, ◌++◌, length, take, drop, Some, None, Option, ◌==◌, nat_le, nat_lt, slice_index_or}
+use Rattle.slices.specs.Held.{rows_over}
 use Rattle.packetline.specs.Packets.{Pkt, flush, delimiter, response_end, line, over}
 use Rattle.packetline.specs.Lines.{Kind, status, capability, version, pathname, other, kind_of}
 use Rattle.host.specs.Parts.{joined}
@@ -41,10 +42,6 @@ fitting rows room (p ∷ ps) = cond (nat_le 1 rows && nat_le (length p) room) (p
 abbrev pub rows_of : ℕ → List (List ℕ) → List PathRow
 rows_of at [] = []
 rows_of at (p ∷ ps) = record { at = at; len = length p } ∷ rows_of (at + length p) ps
-
--- rows laid over the front of others
-abbrev pub rows_over : List PathRow → List PathRow → List PathRow
-rows_over new rows = new ++ drop (length new) rows
 
 -- the part of a text area at a row
 abbrev pub part_at : PathRow → List ℕ → List ℕ

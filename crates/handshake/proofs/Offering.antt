@@ -7,7 +7,7 @@ use Rattle.slices.specs.Answers.{told}
 use Rattle.slices.specs.declared.rows.Full.{Full}
 use Rattle.slices.specs.Held.{handed_back, pushed}
 use Rattle.packetline.specs.Packets.{over}
-use Rattle.process.proofs.Laid.{laid_set, took}
+use Rattle.slices.proofs.Pushes.{rows_over_set, took}
 use Rattle.handshake.specs.declared.protocol.Objection.{Objection}
 use Rattle.handshake.specs.Servers.{objection_number, with_version, Holding, kept_by, KeepsVersion}
 
@@ -16,7 +16,7 @@ module _ (space vs : List ℕ) (n : ℕ) where
   held_on rows rows' count count' (is, many, fits) room put more =
       let long : length rows ≡ length space = ap length is ∙ length-append vs (drop (length vs) space) ∙ (let d = length-drop (length vs) space in omega (arith, d, fits)) in
       let next = length_push vs n in
-      (omega (arith, room, many, long), (put ∙ ap (λ l. set l count n) is ∙ ap (λ i. set (over vs space) i n) many ∙ laid_set vs space n (omega (arith, room, many, long)), omega (arith, more, many, next), omega (arith, room, many, long, next)))
+      (omega (arith, room, many, long), (put ∙ ap (λ l. set l count n) is ∙ ap (λ i. set (over vs space) i n) many ∙ rows_over_set vs space n (omega (arith, room, many, long)), omega (arith, more, many, next), omega (arith, room, many, long, next)))
 
   by_room : (b : Bool) → b ≡ true → (rows' : List ℕ) (count' : ℕ) → Holding space (vs ++ n ∷ []) rows' count'
       → Holding space (kept_by vs (cond b (Ok (vs ++ n ∷ [])) (Err 7))) rows' count' × (◌≡◌ {A = Result (List ℕ) ℕ} (Ok (kept_by vs (cond b (Ok (vs ++ n ∷ [])) (Err 7)))) (cond b (Ok (vs ++ n ∷ [])) (Err 7)))

@@ -1,26 +1,13 @@
 -- Lines by their prefix, and what follows of it.
-use Rattle.std.proofs.Common.{◌≡◌, ℕ, Bool, true, false, cond, eqb, List, ◌++◌, length, take, drop, is_some, Some, None, Ok, Err, codes, Option, Result, sym, refl, ap, ◌∙◌, subst, arith}
-use Rattle.std.specs.Str.{bytes_eq}
+use Rattle.std.proofs.Common.{◌≡◌, ℕ, Bool, true, false, cond, eqb, List, ◌++◌, is_some, Some, None, Ok, Err, codes, Option, Result, sym, refl, ap, ◌∙◌, arith}
 use Rattle.std.proofs.lemmas.Slice.Eq.{bytes_eq-Decides}
-use Rattle.std.proofs.lemmas.List.{take_at, drop_at}
 use Rattle.std.proofs.lemmas.Bool.{cond-true}
 use Rattle.slices.specs.First.{first_equal}
 use Rattle.packetline.specs.Lines.{Kind, status, capability, version, pathname, other, kind_of, after_prefix, spelt}
 use Rattle.packetline.specs.Text.{number_of}
 use Rattle.handshake.specs.Judged.{is_role, greets, version_of, version_in, capability_in}
 use Rattle.handshake.specs.Handshakes.{welcomed, offered, chosen}
-use Rattle.process.proofs.LineKinds.{After, after_law, kind_law}
-
--- The part after a prefix
-
-pub after_some : (p bs x : List ℕ) → after_prefix p bs ≡ Some x → bs ≡ p ++ x
-after_some p bs x h = sym (subst (After p bs) h (after_law p bs))
-
-pub after_append : (p x : List ℕ) → after_prefix p (p ++ x) ≡ Some x
-unfolding after_prefix
-after_append p x =
-    cond-true (bytes_eq (take (length p) (p ++ x)) p) (Some (drop (length p) (p ++ x))) None ((bytes_eq-Decides (take (length p) (p ++ x)) p).1 (take_at p x (length p) refl))
-    ∙ ap Some (drop_at p x (length p) refl)
+use Rattle.process.proofs.LineKinds.{after_some, after_append, kind_law}
 
 -- Kinds
 

@@ -24,6 +24,20 @@ acted_append p (noted b ∷ xs) ys m n h k = acted_append p xs ys m n h k
 pub talk_none : {A : Type 0} (r : Result A LineFault) (w : Sight) (p : ℕ) (a : Areas) → Talks (λ v. ends r v) w p a r w a
 talk_none r w p a = record { events = []; goes = λ rest. (rest, λ past. refl); others = sym (with_same w.world p); laid = refl; acts = []; acted = refl; grows = grows_none w.log }
 
+-- a talk of which something else is made, where nothing more is said: a fault may be caught so
+abbrev pub talk_made : {A B : Type 0} {f : Wire → Got A} (c : Got A → Got B) {w : Sight} {p : ℕ} {a : Areas} {w₁ : Sight} {a₁ : Areas} (r : Result A LineFault) (r' : Result B LineFault)
+    → ((v : Wire) → c (ends r v) ≡ ends r' v) → Talks f w p a r w₁ a₁ → Talks (λ v. c (f v)) w p a r' w₁ a₁
+talk_made c {w₁ = w₁} r r' is s =
+    record {
+      events = s.events;
+      goes = λ rest. let l1 = s.goes rest in (l1.0, λ past. ap c (l1.1 past) ∙ is _);
+      others = s.others;
+      laid = s.laid;
+      acts = s.acts;
+      acted = s.acted;
+      grows = s.grows;
+    }
+
 module _ {A B : Type 0} {f : Wire → Got A} (g : A → Wire → Got B) {w : Sight} {p : ℕ} {a : Areas} {w₁ : Sight} {a₁ : Areas} where
   unfoldable pub talk_then : (x : A) {r : Result B LineFault} {w₂ : Sight} {a₂ : Areas} → Talks f w p a (Ok x) w₁ a₁ → Talks (g x) w₁ p a₁ r w₂ a₂
       → Talks (λ v. then (f v) g) w p a r w₂ a₂
@@ -44,16 +58,7 @@ module _ {A B : Type 0} {f : Wire → Got A} (g : A → Wire → Got B) {w : Sig
       }
 
   unfoldable pub talk_stop : (e : LineFault) → Talks f w p a (Err e) w₁ a₁ → Talks (λ v. then (f v) g) w p a (Err e) w₁ a₁
-  talk_stop e s =
-      record {
-        events = s.events;
-        goes = λ rest. let l1 = s.goes rest in (l1.0, λ past. ap (λ y. then y g) (l1.1 past));
-        others = s.others;
-        laid = s.laid;
-        acts = s.acts;
-        acted = s.acted;
-        grows = s.grows;
-      }
+  talk_stop e s = talk_made (λ y. then y g) (Err e) (Err e) (λ v. refl) s
 
 -- an answer known by an equation
 pub talk_is : {A : Type 0} {f : Wire → Got A} {w : Sight} {p : ℕ} {a : Areas} {w' : Sight} {a' : Areas} {r r' : Result A LineFault} → r' ≡ r → Talks f w p a r w' a' → Talks f w p a r' w' a'

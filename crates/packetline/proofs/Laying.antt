@@ -7,7 +7,7 @@ use Rattle.packetline.specs.Packets.{digits, sendable, packet, line_pkt, over}
 
 module _ (xs area : List ℕ) (n : ℕ) (e : length xs ≡ n) where
   -- a part
-  over_part : (k : ℕ) (ys : List ℕ) → length ys ≡ k → put_mid n k (over xs area) ys ≡ over (xs ++ ys) area
+  pub over_part : (k : ℕ) (ys : List ℕ) → length ys ≡ k → put_mid n k (over xs area) ys ≡ over (xs ++ ys) area
   over_part k ys h =
       let l : length xs + k ≡ length (xs ++ ys) = omega (arith, length-append xs ys) in
       let front = take_at xs (drop (length xs) area) n e in

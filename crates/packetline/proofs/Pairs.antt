@@ -3,7 +3,7 @@ use Rattle.std.proofs.Common.{◌≡◌, ◌≢◌, ℕ, ◌+◌, ◌<◌, eqb, 
 use Rattle.std.specs.Option.{option_map}
 use Rattle.std.proofs.lemmas.List.{drop_more, length-take, get_or-take}
 use Rattle.std.proofs.lemmas.List.Elements.{recursion_from_All}
-use Rattle.std.proofs.lemmas.Bool.{cond-false, eqb-true, eqb-false, ne_eqb}
+use Rattle.std.proofs.lemmas.Bool.{cond-false, cond_both, eqb-true, eqb-false, ne_eqb}
 use Rattle.slices.specs.First.{IsFirst}
 use Rattle.packetline.specs.Metadata.{prepended, pair_of, Unequal, IsPair}
 
@@ -32,3 +32,13 @@ pair_at bs (Some i) h =
       sym (take-append-drop i bs) ∙ ap (λ (x : List ℕ). take i bs ++ x) (drop_more bs i 0 h.0 ∙ ap (λ (b : ℕ). b ∷ drop (i + 1) bs) (eqb-true _ 61 (h.1 0))),
       recursion_from_All (λ b. b ≢ 61) (take i bs) before,
     )
+
+-- a line is the pair that it has, or has none
+law_more : (b : ℕ) (bs : List ℕ) (r : Option (List ℕ × List ℕ)) → (b ≡ 61 → ⊥) → IsPair bs r → IsPair (b ∷ bs) (option_map (prepended b) r)
+law_more b bs None n h = (n, h)
+law_more b bs (Some p) n h = (ap (λ xs. b ∷ xs) h.0, (n, h.1))
+
+pub pair_law : (bs : List ℕ) → IsPair bs (pair_of bs)
+pair_law [] = tt
+pair_law (b ∷ bs) =
+    cond_both (eqb b 61) _ _ (IsPair (b ∷ bs)) (λ e. (ap (λ (x : ℕ). x ∷ bs) (eqb-true b 61 e), tt)) (λ e. law_more b bs (pair_of bs) (eqb-false b 61 e) (pair_law bs))

@@ -23,28 +23,3 @@ name_laid name status part n e f =
     (cases_lt (length name) 128) in
     let len : n - 0 ≡ length (take 128 name) = simp length-take (omega arith) in
     ap (λ l. l ++ drop (n - 0) status) (f ∙ front) ∙ ap (λ m. take 128 name ++ drop m status) len
-
--- one element more behind those that are laid over the front of others
-pub laid_set : {X : Type 0} (new rows : List X) (x : X) → length new < length rows → set (new ++ drop (length new) rows) (length new) x ≡ (new ++ x ∷ []) ++ drop (length (new ++ x ∷ [])) rows
-laid_set new rows x h =
-    ap (λ l. set (new ++ l) (length new) x) (drop_more rows (length new) x h)
-    ∙ set_at new (get_or rows (length new) x) (drop (length new + 1) rows) x (length new) refl
-    ∙ sym (append_assoc new (x ∷ []) (drop (length new + 1) rows))
-    ∙ ap (λ n. (new ++ x ∷ []) ++ drop n rows) (sym (length_push new x))
-
--- a push that is taken
-pub took :
-    {X : Type 0} (rows rows' : List X) (count count' : ℕ) (row : X) (r : Result (Unit {0}) (Full X)) (u : Unit {0})
-    → (told (λ u. u) handed_back r, rows', count') ≡ pushed rows count row → result_ok r ≡ Some u → (count < length rows) × (rows' ≡ set rows count row) × (count' ≡ count + 1)
-took rows rows' count count' row (Err f) u h ok = let z : ◌≡◌ {A = ℕ} 0 1 = cc in absurd (omega arith)
-took rows rows' count count' row (Ok v) u h ok =
-    ⊎_elim
-    (λ (l : count < length rows).
-    let e = h ∙ cond-true (ltb count (length rows)) (Ok tt, set rows count row, count + 1) (Err (7, row), rows, count) (lt-ltb count (length rows) l) in
-    (l, ap (λ t. t.1) e, ap (λ t. t.2) e))
-    (λ (l : length rows ≤ count).
-    let e = h ∙ cond-false (ltb count (length rows)) (Ok tt, set rows count row, count + 1) (Err (7, row), rows, count) (le-ltb count (length rows) l) in
-    let apart = ap (λ t. t.0) e in
-    let z : ◌≡◌ {A = ℕ} 0 1 = cc in
-    absurd (omega arith))
-    (cases_lt count (length rows))

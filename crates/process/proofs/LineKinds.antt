@@ -2,8 +2,8 @@
 use Rattle.std.proofs.Common.{◌≡◌, ℕ, Bool, true, false, cond, List, ◌++◌, length, take, drop, Some, None, codes, Option, sym, refl, ap, ◌∙◌, subst, arith}
 use Rattle.std.specs.Str.{bytes_eq}
 use Rattle.std.proofs.lemmas.Slice.Eq.{bytes_eq-Decides}
-use Rattle.std.proofs.lemmas.List.{take-append-drop, take_at}
-use Rattle.std.proofs.lemmas.Bool.{both_ways}
+use Rattle.std.proofs.lemmas.List.{take-append-drop, take_at, drop_at}
+use Rattle.std.proofs.lemmas.Bool.{both_ways, cond-true}
 use Rattle.packetline.specs.Lines.{Kind, status, capability, version, pathname, other, after_prefix, or_next, kind_of, NotAfter, IsLine}
 use Rattle.process.specs.Statuses.{status_in, NoStatus}
 
@@ -20,6 +20,15 @@ after_by p bs false e =
 pub after_law : (p bs : List ℕ) → After p bs (after_prefix p bs)
 unfolding after_prefix
 after_law p bs = after_by p bs (bytes_eq (take (length p) bs) p) refl
+
+pub after_some : (p bs x : List ℕ) → after_prefix p bs ≡ Some x → bs ≡ p ++ x
+after_some p bs x h = sym (subst (After p bs) h (after_law p bs))
+
+pub after_append : (p x : List ℕ) → after_prefix p (p ++ x) ≡ Some x
+unfolding after_prefix
+after_append p x =
+    cond-true (bytes_eq (take (length p) (p ++ x)) p) (Some (drop (length p) (p ++ x))) None ((bytes_eq-Decides (take (length p) (p ++ x)) p).1 (take_at p x (length p) refl))
+    ∙ ap Some (drop_at p x (length p) refl)
 
 kind_by : (bs : List ℕ) (a b c d : Option (List ℕ)) → After (codes "status=") bs a → After (codes "capability=") bs b → After (codes "version=") bs c → After (codes "pathname=") bs d
     → IsLine bs (or_next a status (or_next b capability (or_next c version (or_next d pathname (other bs)))))

@@ -124,7 +124,7 @@ pub record Until (v u : Wire) (gs ss : List Pkt) : Type 0 where
   pub sent : bytes_sent u.events ≡ bytes_sent v.events ++ packets ss
 
 -- what was given and sent and what was answered are in this relation
-abbrev Passed : {A : Type 0} → (List Pkt → List Pkt → A → Type 0) → (List Pkt → List Pkt → Type 0) → Wire → Got A → Type 0
+abbrev pub Passed : {A : Type 0} → (List Pkt → List Pkt → A → Type 0) → (List Pkt → List Pkt → Type 0) → Wire → Got A → Type 0
 Passed P Q v (got a u) = (gs : List Pkt) × ((ss : List Pkt) × Since v u gs ss × P gs ss a)
 Passed P Q v (lost f u) = (gs : List Pkt) × ((ss : List Pkt) × Until v u gs ss × Q gs ss)
 
@@ -399,11 +399,11 @@ abbrev pub Turns : {S A : Type 0} → (List Pkt → S → Type 0) → (List Pkt 
 Turns I P hs (goes s ns) = Quiet ns × I hs s
 Turns I P hs (stops b) = P hs b
 
-module _ {S X A : Type 0} (reader : Wire → Got X) (step : S → X → Turn S A) {R : List Pkt → List Pkt → X → Type 0}
-    (reads : (v : Wire) → Passes R NoFlush v (reader v)) (silent : (gs ss : List Pkt) (x : X) → R gs ss x → ss ≡ [])
+module _ {S X A : Type 0} (reader : Wire → Got X) (step : S → X → Turn S A) {R : List Pkt → List Pkt → X → Type 0} {N : List Pkt → Type 0}
+    (reads : (v : Wire) → Passes R (λ gs ss. N gs × (ss ≡ [])) v (reader v)) (silent : (gs ss : List Pkt) (x : X) → R gs ss x → ss ≡ [])
     (I : List Pkt → S → Type 0) (P : List Pkt → A → Type 0) (Q : List Pkt → Type 0)
     (turn : (hs gs ss : List Pkt) (s : S) (x : X) → I hs s → R gs ss x → Turns I P (hs ++ gs) (step s x))
-    (fault : (hs gs : List Pkt) (s : S) → I hs s → flushes_of gs ≡ 0 → Q (hs ++ gs)) where
+    (fault : (hs gs : List Pkt) (s : S) → I hs s → N gs → Q (hs ++ gs)) (none : N []) where
   abbrev Answers : List Pkt → List Pkt → List Pkt → A → Type 0
   Answers hs gs ss b = (ss ≡ []) × P (hs ++ gs) b
 
@@ -423,15 +423,24 @@ module _ {S X A : Type 0} (reader : Wire → Got X) (step : S → X → Turn S A
       passes_got b u (right_nil ss _ none, subst (λ xs. P xs b) (sym (ap (λ xs. hs ++ xs) (append-nil gs))) p)
 
   gather_in_passes : (k : ℕ) (s : S) (v : Wire) (hs : List Pkt) → I hs s → Passes (Answers hs) (Faults hs) v (gather_in reader step k s v)
-  gather_in_passes zero s v hs i = passes_lost _ v (refl, fault hs [] s i refl)
+  gather_in_passes zero s v hs i = passes_lost _ v (refl, fault hs [] s i none)
   gather_in_passes (suc k) s v hs i =
       passes_then (λ x u. turned (gather_in reader step k) (step s x) u) v (reader v) (reads v)
       (λ gs ss x u r. turned_passes (gather_in reader step k) (step s x) u hs gs ss (λ s' v' i'. gather_in_passes k s' v' (hs ++ gs) i') (silent gs ss x r) (turn hs gs ss s x i r))
       (λ gs ss h. (h.1, fault hs gs s i h.0))
 
-  pub gather_passes : (s : S) (v : Wire) → I [] s → Passes (λ gs ss b. (ss ≡ []) × P gs b) (λ gs ss. (ss ≡ []) × Q gs) v (gather reader step s v)
+  pub gather_passes_by : (s : S) (v : Wire) → I [] s → Passes (λ gs ss b. (ss ≡ []) × P gs b) (λ gs ss. (ss ≡ []) × Q gs) v (gather reader step s v)
   unfolding gather
-  gather_passes s v i = gather_in_passes (suc (length (waiting_of v.end))) s v [] i
+  gather_passes_by s v i = gather_in_passes (suc (length (waiting_of v.end))) s v [] i
+
+-- the same where no more is known of a fault than that no flush was given
+pub gather_passes : {S X A : Type 0} (reader : Wire → Got X) (step : S → X → Turn S A) {R : List Pkt → List Pkt → X → Type 0}
+    (reads : (v : Wire) → Passes R NoFlush v (reader v)) (silent : (gs ss : List Pkt) (x : X) → R gs ss x → ss ≡ [])
+    (I : List Pkt → S → Type 0) (P : List Pkt → A → Type 0) (Q : List Pkt → Type 0)
+    (turn : (hs gs ss : List Pkt) (s : S) (x : X) → I hs s → R gs ss x → Turns I P (hs ++ gs) (step s x))
+    (fault : (hs gs : List Pkt) (s : S) → I hs s → flushes_of gs ≡ 0 → Q (hs ++ gs))
+    (s : S) (v : Wire) → I [] s → Passes (λ gs ss b. (ss ≡ []) × P gs b) (λ gs ss. (ss ≡ []) × Q gs) v (gather reader step s v)
+gather_passes reader step reads silent I P Q turn fault s v i = gather_passes_by reader step reads silent I P Q turn fault refl s v i
 
 -- What a call on a host tells
 
@@ -439,14 +448,22 @@ abbrev pub Told : {A : Type 0} → (List Pkt → List Pkt → A → Type 0) → 
 Told P Q sent given (Ok a) = (gs : List Pkt) × ((ss : List Pkt) × ReadsAs given gs × (sent ≡ packets ss) × P gs ss a)
 Told P Q sent given (Err f) = (gs : List Pkt) × ((ss : List Pkt) × ((decode given).packets ≡ gs) × (sent ≡ packets ss) × Q gs ss)
 
+-- from the start on
+module _ (v u : Wire) (es : List Event) (gs ss : List Pkt) (start : v.events ≡ []) (end : u.events ≡ es ++ []) where
+  pub since_told : Since v u gs ss → ReadsAs (bytes_given es) gs × (bytes_sent es ≡ packets ss)
+  since_told s =
+      let given : bytes_given es ≡ s.bytes = ap bytes_given (sym (end ∙ append-nil es)) ∙ s.given ∙ ap (λ xs. bytes_given xs ++ s.bytes) start in
+      (ap decode given ∙ s.reads, ap bytes_sent (sym (end ∙ append-nil es)) ∙ s.sent ∙ ap (λ xs. bytes_sent xs ++ packets ss) start)
+
+  pub until_told : Until v u gs ss → ((decode (bytes_given es)).packets ≡ gs) × (bytes_sent es ≡ packets ss)
+  until_told s =
+      let given : bytes_given es ≡ s.bytes = ap bytes_given (sym (end ∙ append-nil es)) ∙ s.given ∙ ap (λ xs. bytes_given xs ++ s.bytes) start in
+      (ap (λ xs. (decode xs).packets) given ∙ s.reads, ap bytes_sent (sym (end ∙ append-nil es)) ∙ s.sent ∙ ap (λ xs. bytes_sent xs ++ packets ss) start)
+
 told_ends : {A : Type 0} (P : List Pkt → List Pkt → A → Type 0) (Q : List Pkt → List Pkt → Type 0) (v u : Wire) (es : List Event) (r : Result A LineFault) → v.events ≡ [] → u.events ≡ es ++ []
     → Passed P Q v (ends r u) → Told P Q (bytes_sent es) (bytes_given es) r
-told_ends P Q v u es (Ok a) start end (gs, (ss, s, p)) =
-    let given : bytes_given es ≡ s.bytes = ap bytes_given (sym (end ∙ append-nil es)) ∙ s.given ∙ ap (λ xs. bytes_given xs ++ s.bytes) start in
-    (gs, (ss, ap decode given ∙ s.reads, ap bytes_sent (sym (end ∙ append-nil es)) ∙ s.sent ∙ ap (λ xs. bytes_sent xs ++ packets ss) start, p))
-told_ends P Q v u es (Err f) start end (gs, (ss, s, q)) =
-    let given : bytes_given es ≡ s.bytes = ap bytes_given (sym (end ∙ append-nil es)) ∙ s.given ∙ ap (λ xs. bytes_given xs ++ s.bytes) start in
-    (gs, (ss, ap (λ xs. (decode xs).packets) given ∙ s.reads, ap bytes_sent (sym (end ∙ append-nil es)) ∙ s.sent ∙ ap (λ xs. bytes_sent xs ++ packets ss) start, q))
+told_ends P Q v u es (Ok a) start end (gs, (ss, s, p)) = let t = since_told v u es gs ss start end s in (gs, (ss, t.0, t.1, p))
+told_ends P Q v u es (Err f) start end (gs, (ss, s, q)) = let t = until_told v u es gs ss start end s in (gs, (ss, t.0, t.1, q))
 
 pub told_by_talk : {A : Type 0} (P : List Pkt → List Pkt → A → Type 0) (Q : List Pkt → List Pkt → Type 0) (f : Wire → Got A) {w : Sight} {p : ℕ} {a : Areas} {r : Result A LineFault} {w' : Sight} {a' : Areas}
     → ((v : Wire) → Passes P Q v (f v)) → (t : Talks f w p a r w' a') → Told P Q (bytes_sent t.events) (bytes_given t.events) r

@@ -14,15 +14,8 @@ use Rattle.process.specs.Gather.{Turn, goes, stops, gather}
 use Rattle.process.specs.Given.{Law}
 use Rattle.process.specs.Peers.{DoesBy}
 use Rattle.process.proofs.Gathers.{Left, left_first, left_fault, left_stop, left_more, text_falls}
+use Rattle.process.proofs.Packetwise.{given_append}
 use Rattle.process.proofs.Passes.{AText, Silent, Untold, only_text_passes, Told, told_by_talk}
-
--- events stand the latest first
-pub given_append : (xs ys : List Event) → bytes_given (xs ++ ys) ≡ bytes_given ys ++ bytes_given xs
-given_append [] ys = sym (append-nil (bytes_given ys))
-given_append (took b ∷ xs) ys = given_append xs ys
-given_append (refused b ∷ xs) ys = given_append xs ys
-given_append (gave b ∷ xs) ys = ap (λ l. l ++ b) (given_append xs ys) ∙ append_assoc (bytes_given ys) (bytes_given xs) b
-given_append (noted s ∷ xs) ys = given_append xs ys
 
 -- the text of a part that was read
 abbrev pub text_at : List ℕ → Option ℕ → Option (List ℕ)

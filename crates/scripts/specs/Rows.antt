@@ -1,15 +1,12 @@
 -- What the rows of a script mean: parts of one byte string, and processes that play them.
-use Rattle.std.specs.Prelude.{ℕ, ◌+◌, ◌-◌, Bool, false, ◌&&◌, List, [], ◌++◌, map, length, take, drop, replicate, is_some, Some, None, Option, nat_le}
+use Rattle.std.specs.Prelude.{ℕ, ◌+◌, ◌-◌, Bool, false, ◌&&◌, List, [], ◌++◌, map, length, replicate, is_some, Some, None, Option, nat_le}
 use Rattle.std.specs.List.{list_all}
 use Rattle.std.specs.Str.{bytes_eq}
+use Rattle.slices.specs.declared.part.Part.{Part}
 use Rattle.slices.specs.First.{first_from}
-use Rattle.scripts.specs.declared.script.Part.{Part}
+use Rattle.slices.specs.Parts.{part}
 use Rattle.scripts.specs.declared.script.Row.{Row}
 use Rattle.host.specs.Worlds.{known, Pipe, Process, gone, live, World}
-
--- the bytes of a part
-abbrev pub part : List ℕ → Part → List ℕ
-part bytes p = take p.len (drop p.at bytes)
 
 -- a part that lies within the first n bytes
 abbrev pub within : ℕ → Part → Bool

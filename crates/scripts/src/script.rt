@@ -3,22 +3,16 @@ ghost use Rattle.std.specs.Prelude.{◌≡◌, ◌<◌, ◌≤◌, true, [], ◌
 ghost use Rattle.std.specs.List.{list_all};
 ghost use Rattle.slices.specs.Answers.{told};
 ghost use Rattle.slices.specs.Names.{name_number};
+ghost use Rattle.slices.specs.Parts.{part};
 ghost use Rattle.host.specs.Acts.{Started, Received, Sent, Ended, Grows, starting, taking, sending, ending, came};
 ghost use Rattle.host.specs.Worlds.{process, with_process};
-ghost use Rattle.scripts.specs.Rows.{part, within, row_within, is_script, place_of, first_of, played, opening, places};
+ghost use Rattle.scripts.specs.Rows.{within, row_within, is_script, place_of, first_of, played, opening, places};
 
 use host::fault::{Fault, NotStarted, Snag};
 use host::host::{Host, How};
 pub use slices::name::OutsideLimits;
+pub use slices::part::Part;
 use std::array;
-
-/// The `len` bytes from `at` on.
-// Of the shape of client's `PathRow`: neither crate uses the other, and each is named in its own promises.
-#[derive(Clone, Copy)]
-pub struct Part {
-    pub at: usize,
-    pub len: usize,
-}
 
 /// A command, and what its process plays: the bytes that wait, what is met behind them, how many bytes it takes, and
 /// what is met beyond those.

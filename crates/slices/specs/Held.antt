@@ -1,5 +1,5 @@
 -- What a push of a row does, where the first `count` of the lent rows are held.
-use Rattle.std.specs.Prelude.{◌≡◌, ℕ, ◌+◌, cond, ◌≢◌, List, [], ◌∷◌, ◌++◌, length, take, Ok, Err, Result, nat_lt, slice_index_or, slice_set}
+use Rattle.std.specs.Prelude.{◌≡◌, ℕ, ◌+◌, cond, ◌≢◌, List, [], ◌∷◌, ◌++◌, length, take, drop, Ok, Err, Result, nat_lt, slice_index_or, slice_set}
 use Rattle.slices.specs.declared.rows.Full.{Full}
 
 -- the number of the refusal of a row for which there is no place
@@ -19,3 +19,7 @@ abbrev pub IsPush : {X : Type 0} → List X → ℕ → X → Result (Unit {0}) 
 IsPush {X} rows count row (Ok _) after held =
     (take held after ≡ take count rows ++ row ∷ []) × (held ≡ count + 1) × (length after ≡ length rows) × ((k : ℕ) (d : X) → k ≢ count → slice_index_or after k d ≡ slice_index_or rows k d)
 IsPush rows count row (Err e) after held = (count ≡ length rows) × (e ≡ (7, row)) × (after ≡ rows) × (held ≡ count)
+
+-- rows laid over the front of others
+abbrev pub rows_over : {X : Type 0} → List X → List X → List X
+rows_over new rows = new ++ drop (length new) rows

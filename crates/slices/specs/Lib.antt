@@ -3,3 +3,4 @@ pub mod First
 pub mod Held
 pub mod Limits
 pub mod Names
+pub mod Parts

@@ -1,8 +1,9 @@
-//! What the other crates need of slices: the search for an equal element, names, rows that refuse when full, and the numbers of refusals.
+//! What the other crates need of slices: the search for an equal element, names, parts of byte strings, rows that refuse when full, and the numbers of refusals.
 #![tactic(auto)]
 
 pub mod equal;
 pub mod name;
 pub mod names;
+pub mod part;
 pub mod refusal;
 pub mod rows;

@@ -1,7 +1,8 @@
 use Rattle.std.proofs.Common.{◌-◌, [], length, sym, ap, ◌∙◌}
 use Rattle.std.proofs.lemmas.List.{append-nil}
 use Rattle.host.specs.Worlds.{live, with_process}
-use Rattle.scripts.specs.Rows.{part, pipe}
+use Rattle.slices.specs.Parts.{part}
+use Rattle.scripts.specs.Rows.{pipe}
 use Rattle.scripts.specs.Scripts.{world_of}
 use Rattle.scripts.proofs.Hosts.{sent_gone, sent_snag, sent_whole}
 use Rattle.scripts.proofs.script.ScriptHost.send.Goals as goal

@@ -1,0 +1,9 @@
+pub mod Holding
+pub mod Lines
+pub mod FirstLines
+pub mod Leading
+pub mod FirstGiven
+pub mod MetaLoop
+pub mod MetaGiven
+pub mod Storing
+pub mod Calls
