@@ -1,6 +1,5 @@
 -- Lines that are judged, and a handshake's parts one after another.
-use Rattle.std.proofs.Common.{◌≡◌, ℕ, List, take, Ok, Err, Option, Result, sym, refl, ap, ◌∙◌}
-use Rattle.std.specs.Option.{option_map}
+use Rattle.std.proofs.Common.{◌≡◌, ℕ, List, Ok, Err, Option, Result, refl, ap, ◌∙◌}
 use Rattle.std.specs.Result.{MatchResult, IsErrAnd}
 use Rattle.host.proofs.Exits.{told_err}
 use Rattle.slices.specs.Answers.{told}

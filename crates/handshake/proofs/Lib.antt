@@ -9,3 +9,4 @@ pub mod SharedLoop
 pub mod Offering
 pub mod VersionsLoop
 pub mod Sharings
+pub mod Serves

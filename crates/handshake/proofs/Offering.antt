@@ -1,15 +1,14 @@
 -- Versions, held in rows as they are offered.
-use Rattle.std.proofs.Common.{◌≡◌, ℕ, ◌+◌, ◌<◌, ◌≤◌, Bool, true, false, cond, ltb, List, [], ◌∷◌, ◌++◌, length, drop, set, Some, None, Ok, Err, Option, Result, sym, refl, ap, ◌∙◌, subst, ⊎_elim, arith}
+use Rattle.std.proofs.Common.{◌≡◌, ℕ, ◌+◌, ◌<◌, Bool, true, false, cond, ltb, List, [], ◌∷◌, ◌++◌, length, drop, set, Some, Ok, Err, Option, Result, sym, refl, ap, ◌∙◌, subst, arith}
 use Rattle.std.specs.Result.{result_ok}
 use Rattle.std.proofs.lemmas.List.{length_push, length-append, length-drop}
-use Rattle.std.proofs.lemmas.Bool.{cond-true, cond-false, lt-ltb, ltb-true, cases_Bool}
+use Rattle.std.proofs.lemmas.Bool.{lt-ltb}
 use Rattle.slices.specs.Answers.{told}
 use Rattle.slices.specs.declared.rows.Full.{Full}
 use Rattle.slices.specs.Held.{handed_back, pushed}
 use Rattle.packetline.specs.Packets.{over}
 use Rattle.slices.proofs.Pushes.{rows_over_set, took}
-use Rattle.handshake.specs.declared.protocol.Objection.{Objection}
-use Rattle.handshake.specs.Servers.{objection_number, with_version, Holding, kept_by, KeepsVersion}
+use Rattle.handshake.specs.Servers.{with_version, Holding, kept_by, KeepsVersion}
 
 module _ (space vs : List ℕ) (n : ℕ) where
   held_on : (rows rows' : List ℕ) (count count' : ℕ) → Holding space vs rows count → count < length rows → rows' ≡ set rows count n → count' ≡ count + 1 → (length vs < length space) × Holding space (vs ++ n ∷ []) rows' count'

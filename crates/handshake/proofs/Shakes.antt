@@ -106,10 +106,10 @@ module _ (names : List Name) where
 
 -- A judged line
 
-abbrev Judged : {A : Type 0} → (Option (List ℕ) → Result A ℕ) → List Pkt → List Pkt → Result A ℕ → Type 0
+abbrev pub Judged : {A : Type 0} → (Option (List ℕ) → Result A ℕ) → List Pkt → List Pkt → Result A ℕ → Type 0
 Judged judge gs ss r = (t : Option (List ℕ)) × AText gs ss t × (r ≡ judge t)
 
-judged_passes : {A : Type 0} (judge : Option (List ℕ) → Result A ℕ) (v : Wire) → Passes (Judged judge) NoFlush v (read_judged judge v)
+pub judged_passes : {A : Type 0} (judge : Option (List ℕ) → Result A ℕ) (v : Wire) → Passes (Judged judge) NoFlush v (read_judged judge v)
 judged_passes judge v =
     passes_then (λ t u. got (judge t) u) v (read_text v) (text_passes v)
     (λ gs ss t u h. passes_got (judge t) u (t, text_right t gs ss h, refl))

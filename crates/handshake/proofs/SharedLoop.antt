@@ -1,6 +1,5 @@
 -- The loop that reads the names that are shared.
 use Rattle.std.proofs.Common.{◌≡◌, ℕ, List, [], take, Some, None, Ok, Err, Option, Result, sym, refl, ap, ◌∙◌, subst}
-use Rattle.slices.specs.Answers.{told}
 use Rattle.slices.specs.declared.name.Name.{Name}
 use Rattle.packetline.specs.Lines.{kind_of}
 use Rattle.host.specs.declared.fault.LineFault.{LineFault}

@@ -1,16 +1,13 @@
 -- The loop that reads the versions that a client offers.
-use Rattle.std.proofs.Common.{◌≡◌, ℕ, zero, suc, ◌+◌, ◌-◌, ◌<◌, ◌≤◌, Bool, true, false, ◌&&◌, ltb, List, [], ◌∷◌, ◌++◌, map, length, take, drop, Some, None, Ok, Err, Option, Result, sym, refl, ap, ◌∙◌, subst, cond, arith}
+use Rattle.std.proofs.Common.{◌≡◌, ℕ, ◌-◌, ◌<◌, ◌≤◌, Bool, true, false, ltb, List, [], ◌∷◌, ◌++◌, map, length, take, drop, Some, None, Ok, Err, Option, Result, sym, refl, ap, ◌∙◌, subst, cond, arith}
 use Rattle.std.proofs.lemmas.List.{append-nil, append_assoc, length_push, take_at}
-use Rattle.std.proofs.lemmas.Bool.{and_parts, cond-true, cond-false, lt-ltb, le-ltb, ltb-true, ltb-false}
-use Rattle.slices.specs.Answers.{told}
+use Rattle.std.proofs.lemmas.Bool.{cond-true, cond-false, lt-ltb, le-ltb, ltb-true, ltb-false}
 use Rattle.packetline.specs.Packets.{Pkt, flush, delimiter, response_end, line, Decoded, decode, over}
-use Rattle.packetline.specs.Lines.{kind_of}
 use Rattle.packetline.specs.Text.{utf8, trim_end, text_of}
 use Rattle.host.specs.declared.fault.LineFault.{LineFault}
-use Rattle.process.specs.Gather.{goes, stops}
-use Rattle.process.specs.Given.{ReadsAs, all_text}
+use Rattle.process.specs.Given.{ReadsAs}
 use Rattle.process.proofs.Passes.{decode_append, decode_empty, Untold}
-use Rattle.process.proofs.Tellings.{text_push, map_push}
+use Rattle.process.proofs.Tellings.{map_push}
 use Rattle.host.specs.declared.peer.Peer.{Peer}
 use Rattle.host.specs.Worlds.{World}
 use Rattle.host.specs.Acts.{Log}
@@ -22,7 +19,7 @@ use Rattle.handshake.specs.Judged.{version_in}
 use Rattle.handshake.specs.Servers.{with_version, versions_turn, versions_step, read_versions, offer_by, offer_then, offers_in, HoldsOffers, HoldsOn, Holding, kept_by}
 
 -- each line is text that offers its version
-abbrev Each : List (List ℕ) → List ℕ → Type 0
+abbrev pub Each : List (List ℕ) → List ℕ → Type 0
 Each [] [] = Unit {0}
 Each [] (v ∷ vs) = ⊥
 Each (l ∷ ls) [] = ⊥
@@ -40,6 +37,19 @@ pub record OfferLines (rows : ℕ) (hs : List Pkt) (vs : List ℕ) : Type 0 wher
   pub are : hs ≡ map line lines
   pub each : Each lines vs
   pub room : length vs ≤ rows
+
+pub offer_push : {rows : ℕ} (hs : List Pkt) (vs : List ℕ) (l : List ℕ) (v : ℕ) → OfferLines rows hs vs → utf8 l ≡ true → version_in (Some (trim_end l)) ≡ Some v → length vs < rows
+    → OfferLines rows (hs ++ line l ∷ []) (vs ++ v ∷ [])
+offer_push hs vs l v o u e room =
+    record {
+      lines = o.lines ++ l ∷ [];
+      are = ap (λ xs. xs ++ line l ∷ []) o.are ∙ sym (map_push line o.lines l);
+      each = each_push o.lines vs l v o.each u e;
+      room = let k = length_push vs v in omega (arith, k, room);
+    }
+
+pub offer_none : (rows : ℕ) → OfferLines rows [] []
+offer_none rows = record { lines = []; are = refl; each = tt; room = omega arith }
 
 -- the bytes given so far
 abbrev pub Offered : ℕ → List ℕ → List ℕ → Type 0
@@ -125,16 +135,11 @@ module _ (rows : ℕ) (vs : List ℕ) (given : List ℕ) (so_far : Offered rows 
         let (hs, so, o) = so_far in (
           hs ++ line p ∷ [],
           decode_append given more hs so ∙ ap (λ (d : Decoded). record { packets = hs ++ d.packets; left = d.left }) reads,
-          record {
-            lines = o.lines ++ p ∷ [];
-            are = ap (λ xs. xs ++ line p ∷ []) o.are ∙ sym (map_push line o.lines p);
-            each = each_push o.lines vs p v o.each u (ap (λ x. version_in (Some x)) is ∙ e);
-            room = let k = length_push vs v in omega (arith, k, room);
-          },
+          offer_push hs vs p v o u (ap (λ x. version_in (Some x)) is ∙ e) room,
         )
 
 pub offered_none : (rows : ℕ) → Offered rows [] []
-offered_none rows = ([], decode_empty, record { lines = []; are = refl; each = tt; room = omega arith })
+offered_none rows = ([], decode_empty, offer_none rows)
 
 -- The loop
 
@@ -148,7 +153,7 @@ holds : (space rows : List ℕ) (count : ℕ) (vs : List ℕ) → Holding space 
 holds space rows count vs holding given e = holding.0 ∙ ap (λ ws. over ws space) (sym e)
 
 -- one version more
-more_if : (rows : ℕ) (vs ws : List ℕ) (v : ℕ) (b : Bool) → ltb (length vs) rows ≡ b → ◌≡◌ {A = Result (List ℕ) ℕ} (cond b (Ok (vs ++ v ∷ [])) (Err 7)) (Ok ws) → (length vs < rows) × (vs ++ v ∷ [] ≡ ws)
+pub more_if : (rows : ℕ) (vs ws : List ℕ) (v : ℕ) (b : Bool) → ltb (length vs) rows ≡ b → ◌≡◌ {A = Result (List ℕ) ℕ} (cond b (Ok (vs ++ v ∷ [])) (Err 7)) (Ok ws) → (length vs < rows) × (vs ++ v ∷ [] ≡ ws)
 more_if rows vs ws v true e h = (ltb-true (length vs) rows e, cc)
 more_if rows vs ws v false e h = let z : ◌≡◌ {A = ℕ} 0 1 = cc in absurd (omega arith)
 

@@ -212,8 +212,9 @@ pub record Heard (prefix : List ℕ) (rows : ℕ) (choice : List ℕ → Option 
   pub value : ks ≡ shared_of names (map trim_end lines)
   pub shared : SharedBy names (map trim_end lines) ks
 
--- The server answers version v and these shared names exactly if it heard so; then it said its welcome, the version, and a line for each shared name, and nothing else.
+-- The server answers version v and these shared names exactly if it heard so and said its part: its welcome, the version and a flush, a line for each
+-- shared name and a flush, and nothing else.
 pub record ServedLaw (prefix : List ℕ) (rows : ℕ) (choice : List ℕ → Option ℕ) (names : List Name) (sent given : List ℕ) (r : Result (Result Met ℕ) LineFault) : Type 0 where
   pub says : (v : ℕ) (ks : List ℕ) → r ≡ Ok (Ok (met v ks)) → sent ≡ packets (answers prefix v ++ shares names ks)
   pub only : (v : ℕ) (ks : List ℕ) → r ≡ Ok (Ok (met v ks)) → Heard prefix rows choice names given v ks
-  pub all : (v : ℕ) (ks : List ℕ) → Heard prefix rows choice names given v ks → r ≡ Ok (Ok (met v ks))
+  pub all : (v : ℕ) (ks : List ℕ) → Heard prefix rows choice names given v ks → sent ≡ packets (answers prefix v ++ shares names ks) → r ≡ Ok (Ok (met v ks))

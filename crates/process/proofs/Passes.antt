@@ -1,9 +1,9 @@
 -- What passes in a talk, as packets.
-use Rattle.std.proofs.Common.{◌≡◌, ℕ, zero, suc, ◌+◌, ◌<◌, Bool, true, false, cond, leb, List, [], ◌∷◌, ◌++◌, length, Some, None, Ok, Err, Option, Result, sym, refl, ap, ◌∙◌, subst, arith}
-use Rattle.std.proofs.lemmas.List.{append_assoc, append-nil, take-append-drop}
+use Rattle.std.proofs.Common.{◌≡◌, ℕ, zero, suc, ◌+◌, ◌<◌, ◌≤◌, Bool, true, false, cond, leb, List, [], ◌∷◌, ◌++◌, length, Some, None, Ok, Err, Option, Result, sym, refl, ap, ◌∙◌, subst, arith}
+use Rattle.std.proofs.lemmas.List.{append_assoc, append-nil, length-append, take-append-drop}
 use Rattle.std.proofs.lemmas.Bool.{cond_both}
 use Rattle.packetline.specs.declared.packet.Packet.{Packet}
-use Rattle.packetline.specs.Packets.{header, payload_length, Pkt, flush, delimiter, response_end, line, packet, packets, Front, whole, bad, short, fronted, front, Decoded, and_more, decode, flush_one, flushes_of}
+use Rattle.packetline.specs.Packets.{header, payload_length, Pkt, flush, delimiter, response_end, line, packet, packets, Front, whole, bad, short, fronted, front, Decoded, and_more, decode, flushes_of}
 use Rattle.packetline.specs.Text.{utf8, trim_end, text_of}
 use Rattle.packetline.proofs.Decoding.{decode_more, shorter}
 use Rattle.packetline.proofs.Exact.{reads_sent}
@@ -215,7 +215,14 @@ AllSent ps gs ss a = (gs ≡ []) × (ss ≡ ps)
 abbrev pub NoneGiven : List Pkt → List Pkt → Type 0
 NoneGiven gs ss = gs ≡ []
 
-sent_by_passes : (p : Pkt) (v : Wire) (r : Result (Unit {0}) Fault) → Passes (AllSent (p ∷ [])) NoneGiven v (sent_by r (packet p) v)
+-- some of the packets were sent, up to one that was refused
+abbrev pub PartSent : List Pkt → List Pkt → List Pkt → Type 0
+PartSent ps gs ss = (gs ≡ []) × ((x : Pkt) × ((rest : List Pkt) × (ps ≡ ss ++ x ∷ rest)))
+
+abbrev Nothing : List Pkt → List Pkt → Type 0
+Nothing gs ss = (gs ≡ []) × (ss ≡ [])
+
+sent_by_passes : (p : Pkt) (v : Wire) (r : Result (Unit {0}) Fault) → Passes (AllSent (p ∷ [])) Nothing v (sent_by r (packet p) v)
 sent_by_passes p v (Ok u) = record {
   by = (
     [],
@@ -231,20 +238,39 @@ sent_by_passes p v (Ok u) = record {
     ),
   );
 }
-sent_by_passes p v (Err f) = record { by = ([], ([], until_none v _ refl refl, refl)) }
+sent_by_passes p v (Err f) = record { by = ([], ([], until_none v _ refl refl, (refl, refl))) }
 
-send_passes : (p : Pkt) (v : Wire) → Passes (AllSent (p ∷ [])) NoneGiven v (send p v)
+send_passes : (p : Pkt) (v : Wire) → Passes (AllSent (p ∷ [])) Nothing v (send p v)
 send_passes p v = sent_by_passes p v (refusal_of v.end (length (packet p)))
 
-pub send_all_passes : (ps : List Pkt) (v : Wire) → Passes (AllSent ps) NoneGiven v (send_all ps v)
-send_all_passes [] v = passes_got tt v (refl, refl)
-send_all_passes (p ∷ ps) v =
+pub part_passes : (ps : List Pkt) (v : Wire) → Passes (AllSent ps) (PartSent ps) v (send_all ps v)
+part_passes [] v = passes_got tt v (refl, refl)
+part_passes (p ∷ ps) v =
     passes_then (λ _ u. send_all ps u) v (send p v) (send_passes p v)
     (λ gs ss a u h.
-    passes_so u (send_all ps u) (send_all_passes ps u)
+    passes_so u (send_all ps u) (part_passes ps u)
     (λ hs ts b k. (ap (λ xs. xs ++ hs) h.0 ∙ k.0, ap (λ xs. xs ++ ts) h.1 ∙ ap (λ xs. p ∷ xs) k.1))
-    (λ hs ts k. ap (λ xs. xs ++ hs) h.0 ∙ k))
-    (λ gs ss h. h)
+    (λ hs ts k. (ap (λ xs. xs ++ hs) h.0 ∙ k.0, (k.1.0, (k.1.1.0, ap (λ xs. p ∷ xs) k.1.1.1 ∙ ap (λ xs. (xs ++ ts) ++ k.1.0 ∷ k.1.1.0) (sym h.1))))))
+    (λ gs ss h. (h.0, (p, (ps, ap (λ xs. xs ++ p ∷ ps) (sym h.1)))))
+
+pub send_all_passes : (ps : List Pkt) (v : Wire) → Passes (AllSent ps) NoneGiven v (send_all ps v)
+send_all_passes ps v = passes_so v (send_all ps v) (part_passes ps v) (λ gs ss a h. h) (λ gs ss h. h.0)
+
+-- what was sent before a refused packet is not all
+packet_long : (p : Pkt) → 4 ≤ length (packet p)
+packet_long flush = omega arith
+packet_long delimiter = omega arith
+packet_long response_end = omega arith
+packet_long (line l) = omega arith
+
+pub part_less : (ps ss : List Pkt) (x : Pkt) (rest : List Pkt) → ps ≡ ss ++ x ∷ rest → packets ss ≡ packets ps → ⊥
+part_less ps ss x rest e h =
+    let whole : packets ss ≡ packets ss ++ (packet x ++ packets rest) = h ∙ ap packets e ∙ packets_append ss (x ∷ rest) in
+    let a = ap length whole in
+    let b = length-append (packets ss) (packet x ++ packets rest) in
+    let c = length-append (packet x) (packets rest) in
+    let d = packet_long x in
+    omega (arith, a, b, c, d)
 
 -- Reading
 

@@ -1,14 +1,12 @@
 -- The loop over lines of text up to a flush, on a peer, with what is known of the bytes given so far.
-use Rattle.std.proofs.Common.{◌≡◌, ℕ, List, [], ◌∷◌, ◌++◌, take, Some, None, Ok, Err, Option, Result, sym, refl, ap, ◌∙◌, subst}
-use Rattle.std.proofs.lemmas.List.{append_assoc, append-nil}
+use Rattle.std.proofs.Common.{◌≡◌, ℕ, List, [], ◌++◌, take, Ok, Err, Option, Result, sym, refl, ap, ◌∙◌, subst}
 use Rattle.std.specs.Option.{option_map}
 use Rattle.host.specs.declared.fault.LineFault.{LineFault}
 use Rattle.host.specs.declared.peer.Peer.{Peer}
 use Rattle.host.specs.Worlds.{World}
 use Rattle.host.specs.Acts.{Log}
-use Rattle.host.specs.Talk.{Event, took, refused, gave, noted, bytes_sent, bytes_given, Areas, areas, Wire, Got, read_text, shown_part, Sight, Talks, Works}
+use Rattle.host.specs.Talk.{Event, bytes_sent, bytes_given, Areas, areas, Wire, Got, read_text, shown_part, Sight, Talks, Works}
 use Rattle.host.specs.Peers.{seen, SameLent, Does}
-use Rattle.host.proofs.Talking.{talk_is}
 use Rattle.host.proofs.Peering.{same_peer, same_then, later, does_is}
 use Rattle.process.specs.Gather.{Turn, goes, stops, gather}
 use Rattle.process.specs.Given.{Law}

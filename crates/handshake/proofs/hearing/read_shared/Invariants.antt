@@ -1,4 +1,4 @@
-use Rattle.std.proofs.Common.{ℕ, List, length}
+use Rattle.std.proofs.Common.{length}
 use Rattle.host.specs.Worlds.{waits}
 use Rattle.handshake.specs.Places.{AllWithin}
 use Rattle.handshake.specs.Sharing.{places_of}

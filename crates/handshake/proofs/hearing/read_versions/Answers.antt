@@ -1,4 +1,4 @@
-use Rattle.std.proofs.Common.{ℕ, List, [], length, take, Ok, Err, refl, sym, ap, ◌∙◌, rules, arith}
+use Rattle.std.proofs.Common.{ℕ, List, [], Ok, refl, sym, ap, rules, arith}
 use Rattle.host.proofs.Exits.{told_err}
 use Rattle.host.proofs.Peering.{later}
 use Rattle.process.proofs.Gathers.{text_falls}

@@ -1,4 +1,4 @@
-use Rattle.std.proofs.Common.{ℕ, List, [], ◌∷◌, Err, refl, sym, ap, ◌∙◌}
+use Rattle.std.proofs.Common.{ℕ, List, [], ◌∷◌, refl, sym, ap}
 use Rattle.host.proofs.Exits.{told_err}
 use Rattle.host.proofs.Peering.{begun, sent_stop}
 use Rattle.slices.specs.Names.{name_bytes}

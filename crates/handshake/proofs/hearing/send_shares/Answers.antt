@@ -1,6 +1,6 @@
-use Rattle.std.proofs.Common.{ℕ, ◌≤◌, List, length, get_or, Err, refl, sym, ap, ◌∙◌, subst, arith}
+use Rattle.std.proofs.Common.{ℕ, ◌≤◌, List, length, get_or, sym, ap, ◌∙◌, subst, arith}
 use Rattle.host.proofs.Exits.{told_err}
-use Rattle.host.proofs.Peering.{begun, sent_more, sent_stop}
+use Rattle.host.proofs.Peering.{sent_more, sent_stop}
 use Rattle.handshake.specs.Places.{is_among}
 use Rattle.handshake.specs.Sharing.{places_of}
 use Rattle.handshake.specs.Servers.{shared_line}

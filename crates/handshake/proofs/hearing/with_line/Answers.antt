@@ -1,4 +1,4 @@
-use Rattle.std.proofs.Common.{ℕ, List, sym, ap, ◌∙◌, subst, arith}
+use Rattle.std.proofs.Common.{sym, ◌∙◌, subst, arith}
 use Rattle.handshake.specs.Places.{AllWithin}
 use Rattle.handshake.specs.Sharing.{places_of}
 use Rattle.handshake.proofs.Placing.{place_within, within_place}

@@ -1,4 +1,4 @@
-use Rattle.std.proofs.Common.{Some, Err, sym, ap, ◌∙◌}
+use Rattle.std.proofs.Common.{Some, sym, ap, ◌∙◌}
 use Rattle.slices.specs.Answers.{told}
 use Rattle.host.proofs.Exits.{told_err}
 use Rattle.handshake.proofs.Judging.{judged_fault, judged_line, mapped}
