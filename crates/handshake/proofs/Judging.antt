@@ -15,8 +15,6 @@ use Rattle.handshake.specs.declared.protocol.Refusal.{Refusal}
 use Rattle.handshake.specs.declared.protocol.Refusal.TheVariants.{Line, Protocol as Wrong}
 use Rattle.handshake.specs.Judged.{if_right, read_judged, heard}
 
-
-
 module _ {P : Type 0} (number : P → ℕ) {H : Type 0} {log : H → Log} {world : H → World} {A : Type 0} (judge : Option (List ℕ) → Result A ℕ) {p p₁ : Peer H} where
   pub judged_fault : {X : Type 0} (f : X → A) (e : LineFault) (r : Result X (Refusal P)) → Does log world read_text p (Err e) p₁ → r ≡ Err (Line e) → Does log world (read_judged judge) p (heard number f r) p₁
   judged_fault f e r s is = does_stop (λ t u. got (judge t) u) e (heard number f r) s (ap (heard number f) is)

@@ -10,3 +10,4 @@ pub mod Offering
 pub mod VersionsLoop
 pub mod Sharings
 pub mod Serves
+pub mod Serving

@@ -141,11 +141,16 @@ module _ (prefix : List ℕ) (rows : ℕ) (choice : List ℕ → Option ℕ) (na
       from_got ServedP ServedQ (gs ++ hs) (ss ++ ts) (Ok (met v ks)) x
       (ap (λ xs. xs ++ ts) said ∙ ap (λ xs. answers prefix v ++ xs) h.1, subst (λ xs. HeardBy xs v ks) (sym (ap (λ xs. gs ++ xs) h.0 ∙ append-nil gs)) heard))
       (λ hs ts h.
-      inr
-      (v,
-      (ks,
-      (subst (λ xs. HeardBy xs v ks) (sym (ap (λ xs. gs ++ xs) h.0 ∙ append-nil gs)) heard,
-      (h.1.0, (h.1.1.0, ap (λ xs. answers prefix v ++ xs) h.1.1.1 ∙ ap (λ xs. xs ++ (ts ++ h.1.0 ∷ h.1.1.0)) (sym said) ∙ sym (append_assoc ss ts (h.1.0 ∷ h.1.1.0))))))))
+      inr (
+        v,
+        (
+          ks,
+          (
+            subst (λ xs. HeardBy xs v ks) (sym (ap (λ xs. gs ++ xs) h.0 ∙ append-nil gs)) heard,
+            (h.1.0, (h.1.1.0, ap (λ xs. answers prefix v ++ xs) h.1.1.1 ∙ ap (λ xs. xs ++ (ts ++ h.1.0 ∷ h.1.1.0)) (sym said) ∙ sym (append_assoc ss ts (h.1.0 ∷ h.1.1.0)))),
+          ),
+        ),
+      ))
 
   module _ (w : List ℕ) (text : utf8 w ≡ true) (greets : hailed prefix (Some (trim_end w)) ≡ Ok tt) where
     module _ (vs : List ℕ) (os : List (List ℕ)) (each : Each os vs) (room : length vs ≤ rows) (v : ℕ) (chooses : choice vs ≡ Some v) (gs ss : List Pkt) (given : gs ≡ line w ∷ (map line os ++ flush ∷ [])) where

@@ -16,7 +16,7 @@ use Rattle.process.specs.Given.{ReadsAs, all_text}
 use Rattle.process.specs.Masks.{holds}
 use Rattle.handshake.specs.Judged.{if_right, read_judged}
 use Rattle.handshake.specs.Handshakes.{hello, desired, welcomed, chosen, ended, with_line, mask_then, mask_after, names_turn, names_step, read_names, Shaken, shaken, names_of, asks, flush_then, version_then, welcome_then, handshake, NamedAt, Agreed, HandshakeLaw}
-use Rattle.process.proofs.Passes.{Passes, passes_then, passes_so, passes_got, send_all_passes, NoFlush, AText, text_passes, quiet_none, Turns, gather_passes, Told, told_by_talk}
+use Rattle.process.proofs.Passes.{Passes, passes_then, passes_so, passes_got, send_all_passes, NoFlush, Silent, Untold, untold_flushes, only_text_passes, AText, text_passes, quiet_none, Turns, gather_passes, Told, told_by_talk}
 use Rattle.process.proofs.Tellings.{map_push, text_push, text_silent, flushes_append, lines_flushes, lines_same}
 use Rattle.process.proofs.Masks.{masks_same}
 use Rattle.handshake.proofs.Naming.{mask_means}
@@ -109,14 +109,17 @@ module _ (names : List Name) where
 abbrev pub Judged : {A : Type 0} → (Option (List ℕ) → Result A ℕ) → List Pkt → List Pkt → Result A ℕ → Type 0
 Judged judge gs ss r = (t : Option (List ℕ)) × AText gs ss t × (r ≡ judge t)
 
-pub judged_passes : {A : Type 0} (judge : Option (List ℕ) → Result A ℕ) (v : Wire) → Passes (Judged judge) NoFlush v (read_judged judge v)
-judged_passes judge v =
-    passes_then (λ t u. got (judge t) u) v (read_text v) (text_passes v)
+pub judged_untold : {A : Type 0} (judge : Option (List ℕ) → Result A ℕ) (v : Wire) → Passes (Judged judge) (Silent Untold) v (read_judged judge v)
+judged_untold judge v =
+    passes_then (λ t u. got (judge t) u) v (read_text v) (only_text_passes v)
     (λ gs ss t u h. passes_got (judge t) u (t, text_right t gs ss h, refl))
     (λ gs ss h. h)
   where
     text_right : (t : Option (List ℕ)) (gs ss : List Pkt) → AText gs ss t → AText (gs ++ []) (ss ++ []) t
     text_right t gs ss h = subst (λ xs. AText xs (ss ++ []) t) (sym (append-nil gs)) (subst (λ xs. AText gs xs t) (sym (append-nil ss)) h)
+
+pub judged_passes : {A : Type 0} (judge : Option (List ℕ) → Result A ℕ) (v : Wire) → Passes (Judged judge) NoFlush v (read_judged judge v)
+judged_passes judge v = passes_so v (read_judged judge v) (judged_untold judge v) (λ gs ss r h. h) (λ gs ss h. (untold_flushes gs h.1, h.0))
 
 text_few : (t : Option (List ℕ)) (gs ss : List Pkt) → AText gs ss t → flushes_of gs ≤ 1
 text_few None gs ss h = let c : flushes_of gs ≡ 1 = ap flushes_of h.0 in omega arith

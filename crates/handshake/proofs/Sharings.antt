@@ -95,22 +95,32 @@ module _ (names : List Name) where
       first : (j : ℕ) → is_among j ks ≡ true → NamedBefore names (ts ++ t ∷ []) j k
       first j e =
           let (before, (s, (after, is, p))) = (was.named j).0 e in
-          old_before ts t j k
-          (before, (s, (after, is, p, λ n.
-          let (b, (s', (a, is', p'))) = n in
-          both_ways (is_among k ks) apart ((was.named k).1 (b, (s', (a ++ (codes "capability=" ++ s) ∷ after, is ∙ ap (λ l. l ++ (codes "capability=" ++ s) ∷ after) is' ∙ append_assoc b ((codes "capability=" ++ s') ∷ a) ((codes "capability=" ++ s) ∷ after), p')))))))
+          old_before ts t j k (
+            before,
+            (
+              s,
+              (
+                after,
+                is,
+                p,
+                λ n.
+                    let (b, (s', (a, is', p'))) = n in
+                    both_ways (is_among k ks) apart ((was.named k).1 (b, (s', (a ++ (codes "capability=" ++ s) ∷ after, is ∙ ap (λ l. l ++ (codes "capability=" ++ s) ∷ after) is' ∙ append_assoc b ((codes "capability=" ++ s') ∷ a) ((codes "capability=" ++ s) ∷ after), p')))),
+              ),
+            ),
+          )
 
       grows : SharedBy names (ts ++ t ∷ []) (ks ++ k ∷ [])
       grows =
           record {
             named = λ j. (
               (λ b.
-              ⊎_elim (λ o. old j ts t ((was.named j).0 o))
-              (λ o. ⊎_elim (λ q. let z = eqb-true j k q in subst (λ x. NamedAt names x (ts ++ t ∷ [])) (sym z) (new k ts t it)) (λ q. let z : ◌≡◌ {A = ℕ} 0 1 = cc in absurd (omega arith)) (or_cases (eqb j k) false o))
-              (or_cases (is_among j ks) (eqb j k || false) (sym (among_push k ks j) ∙ b))),
+                  ⊎_elim (λ o. old j ts t ((was.named j).0 o))
+                  (λ o. ⊎_elim (λ q. let z = eqb-true j k q in subst (λ x. NamedAt names x (ts ++ t ∷ [])) (sym z) (new k ts t it)) (λ q. let z : ◌≡◌ {A = ℕ} 0 1 = cc in absurd (omega arith)) (or_cases (eqb j k) false o))
+                  (or_cases (is_among j ks) (eqb j k || false) (sym (among_push k ks j) ∙ b))),
               (λ n.
-              among_push k ks j
-              ∙ ⊎_elim (λ i. or_right (is_among j ks) (eqb j k || false) (or_left (eqb j k) false (eq-eqb j k (only j i)))) (λ o. or_left (is_among j ks) (eqb j k || false) ((was.named j).1 o)) (cases j ts t n)),
+                  among_push k ks j
+                  ∙ ⊎_elim (λ i. or_right (is_among j ks) (eqb j k || false) (or_left (eqb j k) false (eq-eqb j k (only j i)))) (λ o. or_left (is_among j ks) (eqb j k || false) ((was.named j).1 o)) (cases j ts t n)),
             );
             once = IsDistinct-push nat_eq_equiv ks k was.once apart;
             order = order_push (ts ++ t ∷ []) ks k (old_order ts t ks was.order) (each_among (λ j. NamedBefore names (ts ++ t ∷ []) j k) ks first);

@@ -1,4 +1,5 @@
 //! What a handshake comes to.
+use crate::shared::Shared;
 use process::capabilities::Capabilities;
 
 /// The version that the process chose, and which of the desired names it named.
@@ -7,4 +8,11 @@ use process::capabilities::Capabilities;
 pub struct Agreement {
     pub version: u64,
     pub capabilities: Capabilities,
+}
+
+/// The version that a server chose, and which of its names the client named.
+#[derive(Clone, Copy)]
+pub struct Accord {
+    pub version: u64,
+    pub shared: Shared,
 }

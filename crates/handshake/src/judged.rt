@@ -67,10 +67,7 @@ pub(crate) fn read_judged<
     A: Drop,
     P: Numbered + Drop,
     J: FnOnce(Option<&[u8]>) -> Result<A, P>,
->(
-    peer: &mut Peer<'_, H>,
-    judge: J,
-) -> Result<A, Refusal<P>>
+>(peer: &mut Peer<'_, H>, judge: J) -> Result<A, Refusal<P>>
     requires { J.IsAlwaysCallable judge }
     ensures { (verdict : Option (List ℕ) → Result A ℕ) → ((o : _) (r : _) → J.post judge o r → told (λ a. a) P.number r ≡ verdict (option_map (λ x. x.now) o)) → Does H.log H.world (read_judged verdict) peer.old (heard P.number (λ a. a) result) peer.new }
 {

@@ -2,8 +2,8 @@
 #![tactic(auto)]
 
 pub mod agreement;
-pub mod inner;
 mod hearing;
+pub mod inner;
 mod judged;
 mod parts;
 pub mod protocol;

@@ -349,7 +349,7 @@ unread_untold (delimiter ∷ ps) h = h
 unread_untold (response_end ∷ ps) h = h
 unread_untold (line l ∷ ps) h = absurd h
 
-untold_flushes : (gs : List Pkt) → Untold gs → flushes_of gs ≡ 0
+pub untold_flushes : (gs : List Pkt) → Untold gs → flushes_of gs ≡ 0
 untold_flushes [] h = refl
 untold_flushes (flush ∷ ps) h = absurd h
 untold_flushes (delimiter ∷ ps) h = let k : flushes_of ps ≡ 0 = ap flushes_of h in omega arith

@@ -5,8 +5,11 @@ use Rattle.host.specs.declared.fault.LineFault.{LineFault}
 use Rattle.host.specs.declared.peer.Peer.{Peer}
 use Rattle.host.specs.Worlds.{World}
 use Rattle.host.specs.Acts.{Log}
-use Rattle.host.specs.Talk.{Event, bytes_sent, bytes_given, Areas, areas, Wire, Got, read_text, shown_part, Sight, Talks, Works}
+use Rattle.host.specs.Talk.{Event, bytes_sent, bytes_given, Areas, areas, Wire, Got, got, then, read_text, shown_part, Sight, Talks, Works}
 use Rattle.host.specs.Peers.{seen, SameLent, Does}
+use Rattle.host.proofs.Logging.{grows_none}
+use Rattle.host.proofs.Takes.{with_same}
+use Rattle.host.proofs.Talking.{talk_then, talk_stop}
 use Rattle.host.proofs.Peering.{same_peer, same_then, later, does_is}
 use Rattle.process.specs.Gather.{Turn, goes, stops, gather}
 use Rattle.process.specs.Given.{Law}
@@ -39,6 +42,58 @@ pub record DoesGiven {H A : Type 0} (log : H → Log) (world : H → World) (Q :
 
 pub given_does : {H A : Type 0} {log : H → Log} {world : H → World} {Q : List ℕ → Type 0} {f : Wire → Got A} {p p' : Peer H} {r : Result A LineFault} → DoesGiven log world Q f p r p' → Does log world f p r p'
 given_does d = record { lent = d.lent; talks = λ status. (d.talks status).0 }
+
+-- one call after another
+module _ {H A B : Type 0} {log : H → Log} {world : H → World} {f : Wire → Got A} (k : A → Wire → Got B) {p p₁ : Peer H} (Q : List ℕ → Type 0) where
+  pub given_then : (Q₁ Q₂ : List ℕ → Type 0) (x : A) {r : Result B LineFault} {p₂ : Peer H} → DoesGiven log world Q₁ f p (Ok x) p₁ → DoesGiven log world Q₂ (k x) p₁ r p₂
+      → ((given more : List ℕ) → Q₁ given → Q₂ more → Q (given ++ more)) → DoesGiven log world Q (λ v. then (f v) k) p r p₂
+  unfolding talk_then
+  given_then Q₁ Q₂ x {r} {p₂} s t both =
+      record {
+        lent = same_then s.lent t.lent;
+        talks = λ status.
+            let a = s.talks status in
+            let b = subst (λ n. (t' : Talks (k x) (seen log world p₁) n (areas p₁.work.now status) r (seen log world p₂) (areas p₂.work.now status)) × Q₂ (bytes_given t'.events)) s.lent.process (t.talks status) in
+            (talk_then k x a.0 b.0, subst Q (sym (given_append b.0.events a.0.events)) (both (bytes_given a.0.events) (bytes_given b.0.events) a.1 b.1));
+      }
+
+  pub given_stop : (e : LineFault) → DoesGiven log world Q f p (Err e) p₁ → DoesGiven log world Q (λ v. then (f v) k) p (Err e) p₁
+  unfolding talk_stop
+  given_stop e s = record { lent = s.lent; talks = λ status. let a = s.talks status in (talk_stop k e a.0, a.1) }
+
+-- an answer without a talk
+pub given_got : {H A : Type 0} {log : H → Log} {world : H → World} (x : A) (p : Peer H) → DoesGiven log world (λ given. given ≡ []) (λ v. got x v) p (Ok x) p
+given_got {log = log} {world = world} x p =
+    record {
+      lent = same_peer p;
+      talks = λ status.
+          let w = seen log world p in (
+            record {
+              events = [];
+              goes = λ rest. (rest, λ past. refl);
+              others = sym (with_same w.world p.process);
+              laid = refl;
+              acts = [];
+              acted = refl;
+              grows = grows_none w.log;
+            },
+            refl,
+          );
+    }
+
+-- of what was given nothing is known
+pub does_given : {H A : Type 0} {log : H → Log} {world : H → World} {f : Wire → Got A} {p p' : Peer H} {r : Result A LineFault} → Does log world f p r p' → DoesGiven log world (λ _. Unit {0}) f p r p'
+does_given d = record { lent = d.lent; talks = λ status. (d.talks status, tt) }
+
+-- what follows is known too
+pub given_so : {H A : Type 0} {log : H → Log} {world : H → World} {Q Q' : List ℕ → Type 0} {f : Wire → Got A} {p p' : Peer H} {r : Result A LineFault} → DoesGiven log world Q f p r p' → ((given : List ℕ) → Q given → Q' given)
+    → DoesGiven log world Q' f p r p'
+given_so d so = record { lent = d.lent; talks = λ status. let t = d.talks status in (t.0, so (bytes_given t.0.events) t.1) }
+
+-- a law of what was given in a call
+pub by_does : {H A : Type 0} {log : H → Log} {world : H → World} {law : Law A} {f : Wire → Got A} {p p' : Peer H} {r : Result A LineFault} (Q : List ℕ → Type 0) → DoesBy log world law f p r p'
+    → ((sent given : List ℕ) → law sent given r → Q given) → DoesGiven log world Q f p r p'
+by_does Q d so = record { lent = d.lent; talks = λ status. let t = d.talks status in (t.0, so (bytes_sent t.0.events) (bytes_given t.0.events) t.1) }
 
 -- a law that follows from what was given
 pub by_given : {H A : Type 0} {log : H → Log} {world : H → World} {Q : List ℕ → Type 0} {f : Wire → Got A} {p p' : Peer H} {r : Result A LineFault} (law : Law A) → DoesGiven log world Q f p r p'

@@ -15,10 +15,10 @@ returns g c verdict h =
     let is = mapped g.P.Numbered.number (λ a. a) c.match-branch-2.judged c.map_err.result c.map_err.ensures.cases in
     let work = c.read_text.new.self.work.now in
     elim c.match-branch-2.branch [
-      in-Some w ↦
-        let line = ap (λ l. Some l) w.front.ensures ∙ ap (text_at work) (sym w.in-Some.is) in
-        judged_line g.P.Numbered.number verdict (λ a. a) _ c.in_ok-n.ensures.goes _ line _ _ (ap (told (λ a. a) g.P.Numbered.number) w.judged-is ∙ h _ _ w.judge-judged.ensures) is
+      | in-Some w ↦
+          let line = ap (λ l. Some l) w.front.ensures ∙ ap (text_at work) (sym w.in-Some.is) in
+          judged_line g.P.Numbered.number verdict (λ a. a) _ c.in_ok-n.ensures.goes _ line _ _ (ap (told (λ a. a) g.P.Numbered.number) w.judged-is ∙ h _ _ w.judge-judged.ensures) is
       | in-None w ↦
-        let line = ap (text_at work) (sym w.in-None.is) in
-        judged_line g.P.Numbered.number verdict (λ a. a) _ c.in_ok-n.ensures.goes _ line _ _ (ap (told (λ a. a) g.P.Numbered.number) w.judged-is ∙ h _ _ w.judge-judged-in-None.ensures) is
+          let line = ap (text_at work) (sym w.in-None.is) in
+          judged_line g.P.Numbered.number verdict (λ a. a) _ c.in_ok-n.ensures.goes _ line _ _ (ap (told (λ a. a) g.P.Numbered.number) w.judged-is ∙ h _ _ w.judge-judged-in-None.ensures) is
     ]
