@@ -1,7 +1,6 @@
 -- The calls of a request, one after another.
 use Rattle.std.proofs.Common.{◌≡◌, ℕ, ◌+◌, ◌-◌, ◌≤◌, Bool, true, false, cond, List, [], ◌∷◌, ◌++◌, length, take, drop, Some, None, Ok, Err, Option, Result, sym, refl, ap, ◌∙◌, subst, arith}
 use Rattle.std.specs.Option.{option_map}
-use Rattle.std.proofs.lemmas.Bool.{cond_both}
 use Rattle.std.proofs.lemmas.List.{take_at, length-append, length-drop}
 use Rattle.std.proofs.lemmas.Slice.{drop-append-drop}
 use Rattle.packetline.specs.Metadata.{trim_both, pair_of}
@@ -19,9 +18,9 @@ use Rattle.requests.specs.declared.asked.MetaRow.{MetaRow}
 use Rattle.requests.specs.declared.fault.RequestFault.{RequestFault}
 use Rattle.requests.specs.declared.fault.RequestFault.TheVariants.{Line, Command, Metadata, Full}
 use Rattle.requests.specs.Stored.{Pair, Request, request, and_pair, meta_bytes, bytes_of, used, has_space, counts_of, request_at, Holds}
-use Rattle.requests.specs.Requests.{with_meta, meta_step, read_command, read_meta, meta_then, requested, RequestLaw, turn_kept, meta_kept, behind_kept, stored_in, refused, heard, ReadsCommand, ReadsMeta, ReadsRequest}
+use Rattle.requests.specs.Requests.{with_meta, read_command, read_meta, meta_then, requested, RequestLaw, turn_kept, meta_kept, behind_kept, stored_in, refused, heard, ReadsCommand, ReadsMeta, ReadsRequest}
 use Rattle.requests.proofs.Holding.{holds_shows}
-use Rattle.requests.proofs.FirstGiven.{out, bare, FirstGiven, first_given, first_command, first_law, kept_out, first_stored}
+use Rattle.requests.proofs.FirstGiven.{out, bare, first_given, first_command, first_law, kept_out, first_stored}
 use Rattle.requests.proofs.Leading.{Outcome}
 use Rattle.requests.proofs.Storing.{stored_law}
 use Rattle.requests.proofs.MetaGiven.{MetaPassed, NoMeta, meta_passes, told_law}

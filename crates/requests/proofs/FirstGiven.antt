@@ -7,13 +7,12 @@ use Rattle.packetline.specs.Text.{utf8, trim_end, text_of}
 use Rattle.host.specs.declared.fault.Fault.TheVariants.{Closed, Broken, Other}
 use Rattle.host.specs.declared.fault.LineFault.{LineFault}
 use Rattle.host.specs.declared.fault.LineFault.TheVariants.{Host, Packet, Marker, Text}
-use Rattle.packetline.specs.declared.text.Error.TheVariants.{NotUtf8}
 use Rattle.host.specs.Worlds.{process}
 use Rattle.host.specs.Talk.{Event, bytes_sent, bytes_given, Areas, Wire, wire, Got, got, lost, then, ends, read, wanted, texted, text_in, Sight, Talks}
 use Rattle.process.specs.Given.{ReadsAs}
 use Rattle.process.proofs.LineKinds.{After, after_law}
 use Rattle.process.proofs.Passes.{Passed, OneRead, NoneRead, whole_passes, Since, Until, since_told, until_told}
-use Rattle.requests.specs.Stored.{Request, request}
+use Rattle.requests.specs.Stored.{request}
 use Rattle.requests.specs.Requests.{with_command, command_in, unasked, begun, read_command, CommandIs, RequestLaw, kept_of, text_kept, command_kept, behind_kept, stored_in}
 use Rattle.requests.proofs.FirstLines.{never}
 use Rattle.requests.proofs.Leading.{Outcome, judged_text, judged, Verdict, lead_by, leads, Led, Means, law_by}

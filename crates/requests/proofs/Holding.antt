@@ -1,16 +1,14 @@
 -- What is stored of a request, pair by pair.
-use Rattle.std.proofs.Common.{◌≡◌, ℕ, ◌+◌, ◌-◌, ◌<◌, ◌≤◌, true, false, ltb, leb, ◌&&◌, ◌⊎◌, List, [], ◌∷◌, ◌++◌, map, length, take, drop, set, Some, None, Ok, Err, Option, Result, sym, refl, ap, ◌∙◌, subst, inl, inr, ⊎_elim, arith}
-use Rattle.std.proofs.lemmas.List.{append-nil, append_assoc, length-append, length-drop, take-append-drop, take_at, drop_at}
+use Rattle.std.proofs.Common.{◌≡◌, ℕ, ◌+◌, ◌-◌, ◌<◌, ◌≤◌, true, false, ltb, leb, ◌⊎◌, List, [], ◌∷◌, ◌++◌, map, length, take, drop, set, Some, None, Option, Result, sym, refl, ap, ◌∙◌, subst, inl, inr, ⊎_elim, arith}
+use Rattle.std.proofs.lemmas.List.{append-nil, append_assoc, length-append, length-drop, take_at, drop_at}
 use Rattle.std.proofs.lemmas.Bool.{both_ways, cases_lt, and_from, and_left, and_right, lt-ltb, le-ltb, le-leb, lt-leb}
 use Rattle.std.specs.Result.{result_ok}
-use Rattle.slices.specs.declared.part.Part.{Part}
 use Rattle.slices.specs.declared.rows.Full.{Full}
 use Rattle.slices.specs.Answers.{told}
 use Rattle.slices.specs.Held.{handed_back, pushed, IsPush, rows_over}
 use Rattle.slices.specs.Parts.{part}
 use Rattle.slices.proofs.Pushes.{rows_over_set, took, refused}
 use Rattle.packetline.specs.Packets.{over}
-use Rattle.requests.specs.declared.asked.Asked.{Asked}
 use Rattle.requests.specs.declared.asked.MetaRow.{MetaRow}
 use Rattle.requests.specs.Requests.{NoSpace}
 use Rattle.requests.specs.Stored.{Pair, Request, request, and_pair, meta_bytes, bytes_of, used, row_of, rows_of, has_space, counts_of, pair_at, request_at, Holds, Keeping, LaysBehind, PairKept, StoresPair}

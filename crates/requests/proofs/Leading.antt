@@ -1,9 +1,9 @@
 -- What packets lead to, as far as they decide it, and how that gives the law of a request.
-use Rattle.std.proofs.Common.{◌≡◌, ℕ, ◌+◌, ◌<◌, ◌≤◌, true, false, cond, leb, ltb, ◌⊎◌, List, [], ◌∷◌, ◌++◌, map, length, Some, None, Ok, Err, codes, Option, Result, sym, refl, ap, ◌∙◌, subst, inl, inr, ⊎_elim, arith}
+use Rattle.std.proofs.Common.{◌≡◌, ℕ, ◌<◌, ◌≤◌, true, cond, leb, ◌⊎◌, List, [], ◌∷◌, ◌++◌, map, length, Some, None, Ok, Err, codes, Option, Result, sym, refl, ap, ◌∙◌, subst, ⊎_elim, arith}
 use Rattle.std.proofs.lemmas.List.{append-nil, append_assoc, length-append}
 use Rattle.std.proofs.lemmas.Bool.{cond-true, cond-false, le-leb, lt-leb}
 use Rattle.packetline.specs.Lines.{after_prefix, NotAfter}
-use Rattle.packetline.specs.Metadata.{trim_both, pair_of, IsPair}
+use Rattle.packetline.specs.Metadata.{trim_both, IsPair}
 use Rattle.packetline.specs.Packets.{Pkt, flush, delimiter, response_end, line, Decoded, decode}
 use Rattle.packetline.specs.Text.{utf8, trim_end, text_of}
 use Rattle.packetline.specs.declared.text.Error.TheVariants.{NotUtf8}

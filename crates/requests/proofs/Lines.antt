@@ -1,14 +1,14 @@
 -- Lines of a request that are stored or refused.
-use Rattle.std.proofs.Common.{◌≡◌, ℕ, ◌+◌, ◌≤◌, Bool, true, false, cond, leb, List, [], ◌∷◌, ◌++◌, length, Some, None, Ok, Err, codes, Option, Result, sym, refl, ap, ◌∙◌, arith}
-use Rattle.std.proofs.lemmas.Bool.{cond-true, cond-false, le-leb, lt-leb}
+use Rattle.std.proofs.Common.{◌≡◌, ℕ, ◌≤◌, cond, leb, List, [], length, Some, None, Ok, Err, codes, sym, refl, ap, ◌∙◌}
+use Rattle.std.proofs.lemmas.Bool.{cond-true, cond-false, le-leb}
 use Rattle.packetline.specs.Lines.{after_prefix}
 use Rattle.packetline.specs.Metadata.{trim_both, pair_of}
-use Rattle.packetline.specs.Packets.{over, line}
+use Rattle.packetline.specs.Packets.{line}
 use Rattle.process.specs.Gather.{goes, stops}
 use Rattle.requests.specs.declared.asked.MetaRow.{MetaRow}
 use Rattle.requests.specs.declared.fault.RequestFault.TheVariants.{Metadata, Full}
 use Rattle.requests.specs.Stored.{Pair, Request, and_pair, has_space, LaysBehind, StoresPair}
-use Rattle.requests.specs.Requests.{with_command, command_in, with_meta, meta_step, StoresCommand, StoresLine}
+use Rattle.requests.specs.Requests.{with_command, with_meta, meta_step, StoresCommand, StoresLine}
 
 -- The first line
 

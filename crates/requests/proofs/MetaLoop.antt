@@ -1,5 +1,5 @@
 -- The loop that reads the metadata of a request.
-use Rattle.std.proofs.Common.{◌≡◌, ℕ, ◌+◌, ◌≤◌, List, [], ◌∷◌, ◌++◌, length, take, drop, Some, None, Ok, Err, Option, Result, sym, refl, ap, ◌∙◌, subst, arith}
+use Rattle.std.proofs.Common.{◌≡◌, ℕ, ◌≤◌, List, [], ◌∷◌, ◌++◌, length, take, drop, Some, Ok, Err, Option, Result, sym, refl, ap, ◌∙◌, subst, arith}
 use Rattle.std.proofs.lemmas.List.{append-nil, append_assoc, length-take, take-append-drop}
 use Rattle.packetline.specs.declared.packet.Packet.{Packet}
 use Rattle.packetline.specs.declared.packet.Packet.TheVariants.{Flush, Delimiter, ResponseEnd, Data}
@@ -7,17 +7,16 @@ use Rattle.packetline.specs.Packets.{Pkt, flush, delimiter, response_end, line, 
 use Rattle.host.specs.declared.fault.LineFault.{LineFault}
 use Rattle.host.specs.Talk.{Event, bytes_given, Areas, areas, Wire, Got, read, shown, Sight, Talks, Works}
 use Rattle.host.proofs.Talking.{talk_is}
-use Rattle.process.specs.Gather.{Turn, goes, stops}
+use Rattle.process.specs.Gather.{Turn, stops}
 use Rattle.process.specs.Given.{ReadsAs}
 use Rattle.process.proofs.Gathers.{Left, left_first, left_fault, left_stop, left_more, read_falls}
 use Rattle.process.proofs.Packetwise.{reads_more, reads_none}
 use Rattle.process.proofs.Passes.{decode_empty}
-use Rattle.requests.specs.declared.asked.Asked.{Asked}
 use Rattle.requests.specs.declared.asked.MetaRow.{MetaRow}
 use Rattle.requests.specs.declared.fault.RequestFault.{RequestFault}
 use Rattle.requests.specs.declared.fault.RequestFault.TheVariants.{Line, Metadata}
 use Rattle.requests.specs.Stored.{Request, and_pair, request_at, Holds, Keeping}
-use Rattle.requests.specs.Requests.{meta_step, read_meta, turn_kept, meta_kept, refused, heard, LineKept, StoresLine, command_at, ReadsMeta}
+use Rattle.requests.specs.Requests.{meta_step, read_meta, turn_kept, meta_kept, heard, LineKept, StoresLine, command_at, ReadsMeta}
 use Rattle.requests.proofs.Holding.{holds_sizes, holds_shows}
 
 -- after these events: packets were read, and what they ask is asked

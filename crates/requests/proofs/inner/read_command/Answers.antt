@@ -1,4 +1,4 @@
-use Rattle.std.proofs.Common.{take, refl}
+use Rattle.std.proofs.Common.{take}
 use Rattle.host.proofs.Exits.{told_err}
 use Rattle.requests.proofs.FirstLines.{first_fault, first_flush, first_refused, first_stored}
 use Rattle.requests.proofs.inner.read_command.Goals as goal
