@@ -3,6 +3,7 @@ use Rattle.std.specs.Prelude.{ℕ, cond, ◌&&◌, List, length, Some, None, Opt
 use Rattle.packetline.specs.declared.encode.Error.{Error as Misuse}
 use Rattle.packetline.specs.declared.encode.Error.TheVariants.{AreaTooShort as Short, OutsideLimits}
 use Rattle.slices.specs.declared.name.Name.{Name}
+use Rattle.host.specs.Calls.{has_room}
 use Rattle.handshake.specs.Handshakes.{Shaken, shaken}
 use Rattle.client.specs.declared.client.Client.{Client}
 
@@ -12,4 +13,4 @@ shaken_with c = shaken c.version c.capabilities.mask
 
 -- the fault of a caller who shakes hands: 1 where the longest packet has no room in the work area, 2 where there are more than 16 versions or 32 names
 abbrev pub handshake_fault : List ℕ → List ℕ → List Name → Option Misuse
-handshake_fault work versions names = cond (nat_le 65520 (length work)) (cond (nat_le (length versions) 16 && nat_le (length names) 32) None (Some OutsideLimits)) (Some Short)
+handshake_fault work versions names = cond (has_room work) (cond (nat_le (length versions) 16 && nat_le (length names) 32) None (Some OutsideLimits)) (Some Short)

@@ -1,5 +1,5 @@
 -- An exchange: a command in lines, its content in packets, and the status that the process answers.
-use Rattle.std.specs.Prelude.{◌≡◌, ℕ, cond, ◌&&◌, List, [], ◌∷◌, ◌++◌, map, length, Some, None, Ok, codes, Option, Result, nat_le}
+use Rattle.std.specs.Prelude.{◌≡◌, ℕ, cond, List, [], ◌∷◌, ◌++◌, map, Some, None, Ok, codes, Option, Result}
 use Rattle.packetline.specs.declared.encode.Error.{Error as Misuse}
 use Rattle.packetline.specs.declared.encode.Error.TheVariants.{AreaTooShort as Short, OutsideLimits}
 use Rattle.packetline.specs.Packets.{Pkt, flush, line, line_pkt, packets, all_sendable}
@@ -8,7 +8,7 @@ use Rattle.host.specs.Parts.{parts}
 use Rattle.host.specs.Talk.{Wire, Got, got, then, send_all}
 use Rattle.client.specs.declared.invoke.Meta.{Meta}
 use Rattle.process.specs.declared.status.Status.{Status}
-use Rattle.process.specs.Given.{ReadsAs}
+use Rattle.process.specs.Given.{ReadsAs, have_room}
 use Rattle.process.specs.Statuses.{first, read_status, StatusLines}
 
 -- What the client says
@@ -55,7 +55,7 @@ pub record InvokeLaw (command : List ℕ) (ms : List Meta) (content sent given :
   pub only : (s : Status) → r ≡ Ok s → (ps : List Pkt) × ((s₀ : Status) × ReadsAs given ps × StatusLines ps s₀ × (s ≡ first s₀))
   pub all : (ps : List Pkt) (s₀ : Status) → ReadsAs given ps → StatusLines ps s₀ → r ≡ Ok (first s₀)
 
--- the fault of a caller who invokes a command: 1 where an area is too short, 2 where a line of it cannot be sent
+-- the fault of a caller who invokes a command: 1 where an area has no room, 2 where a line of it cannot be sent
 abbrev pub invoke_fault : List ℕ → List ℕ → List ℕ → List Meta → Option Misuse
 invoke_fault work status command ms =
-    cond (nat_le 65520 (length work) && nat_le 128 (length status)) (cond (all_sendable (request command ms)) None (Some OutsideLimits)) (Some Short)
+    cond (have_room work status) (cond (all_sendable (request command ms)) None (Some OutsideLimits)) (Some Short)

@@ -5,7 +5,8 @@ ghost use Rattle.slices.specs.Names.{name_bytes};
 ghost use Rattle.host.specs.Calls.{Checked};
 ghost use Rattle.host.specs.Talk.{sight, areas};
 ghost use Rattle.process.specs.Given.{TalksBy, WorksBy, rooms};
-ghost use Rattle.handshake.specs.Handshakes.{handshake as handshaken, heard, HandshakeLaw};
+ghost use Rattle.handshake.specs.Judged.{heard};
+ghost use Rattle.handshake.specs.Handshakes.{handshake as handshaken, protocol_number, HandshakeLaw};
 ghost use Rattle.client.specs.Greetings.{shaken_with, handshake_fault};
 ghost use Rattle.client.specs.Listings.{Lists};
 ghost use Rattle.client.specs.Requests.{invoked, InvokeLaw, invoke_fault};
@@ -56,7 +57,7 @@ impl Client {
         versions: &[u64],
         names: &[Name],
     ) -> Result<Client, GreetingError>
-        ensures goes { Checked (handshake_fault work.old versions.now names.now) (λ x. WorksBy (HandshakeLaw (name_bytes prefix.now) versions.now names.now) (handshaken (name_bytes prefix.now) versions.now names.now) (sight (H.log host.old) (H.world host.old)) process work.old (heard shaken_with x) (sight (H.log host.new) (H.world host.new)) work.new) ((host.new ≡ host.old) × (work.new ≡ work.old)) result }
+        ensures goes { Checked (handshake_fault work.old versions.now names.now) (λ x. WorksBy (HandshakeLaw (name_bytes prefix.now) versions.now names.now) (handshaken (name_bytes prefix.now) versions.now names.now) (sight (H.log host.old) (H.world host.old)) process work.old (heard protocol_number shaken_with x) (sight (H.log host.new) (H.world host.new)) work.new) ((host.new ≡ host.old) × (work.new ≡ work.old)) result }
         ensures itself { IfOk result (λ c. c.process ≡ process) }
     {
         if work.len() < MAX_LINE_LEN {

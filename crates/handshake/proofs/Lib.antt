@@ -1,5 +1,12 @@
+pub mod Judging
 pub mod Places
 pub mod Prefixes
 pub mod Naming
 pub mod NamesLoop
 pub mod Shakes
+pub mod Placing
+pub mod SharedLoop
+pub mod Offering
+pub mod VersionsLoop
+pub mod Sharings
+pub mod Serves

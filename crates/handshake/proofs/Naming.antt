@@ -7,26 +7,27 @@ use Rattle.slices.specs.Names.{name_bytes}
 use Rattle.slices.proofs.Searches.{first_is}
 use Rattle.packetline.specs.Lines.{kind_of}
 use Rattle.process.specs.Masks.{holds, with_bit, place_of}
-use Rattle.handshake.specs.Handshakes.{capability_in, at_place, with_name, mask_then, mask_after, NamedAt, AllDesired}
+use Rattle.handshake.specs.Judged.{capability_in}
+use Rattle.handshake.specs.Handshakes.{at_place, with_name, mask_then, mask_after, NamedAt, AllDesired}
 use Rattle.handshake.proofs.Prefixes.{named_spelt, spelt_named}
 use Rattle.process.proofs.Masks.{holds_none, holds_with}
 
 module _ (names : List Name) where
   -- a line names the k-th of the names
-  abbrev NamesIt : ℕ → List ℕ → Type 0
+  abbrev pub NamesIt : ℕ → List ℕ → Type 0
   NamesIt k t = (s : List ℕ) × (t ≡ codes "capability=" ++ s) × (place_of names s ≡ Some k)
 
-  named_none : (k : ℕ) → NamedAt names k [] → ⊥
+  pub named_none : (k : ℕ) → NamedAt names k [] → ⊥
   named_none k ([], (s, (after, e, p))) = let z : ◌≡◌ {A = ℕ} 0 1 = cc in omega arith
   named_none k (x ∷ before, (s, (after, e, p))) = let z : ◌≡◌ {A = ℕ} 0 1 = cc in omega arith
 
-  named_here : (k : ℕ) (t : List ℕ) (ts : List (List ℕ)) → NamesIt k t → NamedAt names k (t ∷ ts)
+  pub named_here : (k : ℕ) (t : List ℕ) (ts : List (List ℕ)) → NamesIt k t → NamedAt names k (t ∷ ts)
   named_here k t ts (s, e, p) = ([], (s, (ts, ap (λ l. l ∷ ts) e, p)))
 
-  named_later : (k : ℕ) (t : List ℕ) (ts : List (List ℕ)) → NamedAt names k ts → NamedAt names k (t ∷ ts)
+  pub named_later : (k : ℕ) (t : List ℕ) (ts : List (List ℕ)) → NamedAt names k ts → NamedAt names k (t ∷ ts)
   named_later k t ts (before, (s, (after, e, p))) = (t ∷ before, (s, (after, ap (λ l. t ∷ l) e, p)))
 
-  named_cases : (k : ℕ) (t : List ℕ) (ts : List (List ℕ)) → NamedAt names k (t ∷ ts) → NamesIt k t ⊎ NamedAt names k ts
+  pub named_cases : (k : ℕ) (t : List ℕ) (ts : List (List ℕ)) → NamedAt names k (t ∷ ts) → NamesIt k t ⊎ NamedAt names k ts
   named_cases k t ts ([], (s, (after, e, p))) = let h : t ≡ codes "capability=" ++ s = cc in inl (s, h, p)
   named_cases k t ts (x ∷ before, (s, (after, e, p))) = let h : ts ≡ before ++ (codes "capability=" ++ s) ∷ after = cc in inr (before, (s, (after, h, p)))
 

@@ -14,7 +14,8 @@ use Rattle.host.specs.declared.fault.LineFault.{LineFault}
 use Rattle.host.specs.Talk.{bytes_sent, bytes_given, Wire, Got, got, then, send_all, read_text}
 use Rattle.process.specs.Given.{ReadsAs, all_text}
 use Rattle.process.specs.Masks.{holds}
-use Rattle.handshake.specs.Handshakes.{hello, desired, welcomed, chosen, ended, with_line, mask_then, mask_after, if_right, read_judged, names_turn, names_step, read_names, Shaken, shaken, names_of, asks, flush_then, version_then, welcome_then, handshake, NamedAt, Agreed, HandshakeLaw}
+use Rattle.handshake.specs.Judged.{if_right, read_judged}
+use Rattle.handshake.specs.Handshakes.{hello, desired, welcomed, chosen, ended, with_line, mask_then, mask_after, names_turn, names_step, read_names, Shaken, shaken, names_of, asks, flush_then, version_then, welcome_then, handshake, NamedAt, Agreed, HandshakeLaw}
 use Rattle.process.proofs.Passes.{Passes, passes_then, passes_so, passes_got, send_all_passes, NoFlush, AText, text_passes, quiet_none, Turns, gather_passes, Told, told_by_talk}
 use Rattle.process.proofs.Tellings.{map_push, text_push, text_silent, flushes_append, lines_flushes, lines_same}
 use Rattle.process.proofs.Masks.{masks_same}
@@ -105,10 +106,10 @@ module _ (names : List Name) where
 
 -- A judged line
 
-abbrev Judged : {A : Type 0} → (Option (List ℕ) → Result A ℕ) → List Pkt → List Pkt → Result A ℕ → Type 0
+abbrev pub Judged : {A : Type 0} → (Option (List ℕ) → Result A ℕ) → List Pkt → List Pkt → Result A ℕ → Type 0
 Judged judge gs ss r = (t : Option (List ℕ)) × AText gs ss t × (r ≡ judge t)
 
-judged_passes : {A : Type 0} (judge : Option (List ℕ) → Result A ℕ) (v : Wire) → Passes (Judged judge) NoFlush v (read_judged judge v)
+pub judged_passes : {A : Type 0} (judge : Option (List ℕ) → Result A ℕ) (v : Wire) → Passes (Judged judge) NoFlush v (read_judged judge v)
 judged_passes judge v =
     passes_then (λ t u. got (judge t) u) v (read_text v) (text_passes v)
     (λ gs ss t u h. passes_got (judge t) u (t, text_right t gs ss h, refl))

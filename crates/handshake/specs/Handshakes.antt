@@ -1,31 +1,21 @@
--- The handshake: client and process agree on a version, and the process names what it can do.
-use Rattle.std.specs.Prelude.{◌≡◌, ℕ, Bool, true, false, cond, List, [], ◌∷◌, ◌++◌, map, is_some, Some, None, Ok, Err, codes, decimal, Decides, Option, Result, nat_eq}
-use Rattle.std.specs.Str.{bytes_eq}
+-- The client's handshake: client and process agree on a version, and the process names what it can do.
+use Rattle.std.specs.Prelude.{◌≡◌, ℕ, true, cond, List, [], ◌∷◌, ◌++◌, map, is_some, Some, None, Ok, Err, codes, Decides, Option, Result, nat_eq}
 use Rattle.slices.specs.declared.name.Name.{Name}
 use Rattle.slices.specs.First.{first_equal}
-use Rattle.slices.specs.Names.{name_bytes}
 use Rattle.packetline.specs.Packets.{Pkt, flush, line, line_pkt, packets}
-use Rattle.packetline.specs.Lines.{Kind, status, capability, version, pathname, other, kind_of, after_prefix}
+use Rattle.packetline.specs.Lines.{kind_of}
 use Rattle.packetline.specs.Text.{trim_end, number_of}
 use Rattle.host.specs.declared.fault.LineFault.{LineFault}
-use Rattle.host.specs.Faults.{line_number}
 use Rattle.host.specs.Talk.{Wire, Got, got, then, send_all, read_text}
 use Rattle.handshake.specs.declared.protocol.Protocol.{Protocol}
 use Rattle.handshake.specs.declared.protocol.Protocol.TheVariants.{Welcome, Version, NotOffered, Flush, Capability}
 use Rattle.handshake.specs.declared.agreement.Agreement.{Agreement}
-use Rattle.handshake.specs.declared.protocol.Refusal.{Refusal}
-use Rattle.handshake.specs.declared.protocol.Refusal.TheVariants.{Line, Protocol as Wrong}
+use Rattle.handshake.specs.Judged.{version_line, capability_line, greets, version_in, capability_in, if_right, read_judged}
 use Rattle.process.specs.Gather.{Turn, goes, stops, gather}
 use Rattle.process.specs.Given.{ReadsAs, all_text}
 use Rattle.process.specs.Masks.{holds, with_bit, place_of}
 
 -- What the client says
-
-abbrev pub version_line : ℕ → Pkt
-version_line n = line_pkt (codes "version=" ++ decimal n)
-
-abbrev pub capability_line : Name → Pkt
-capability_line n = line_pkt (codes "capability=" ++ name_bytes n)
 
 -- the welcome, a line for each offered version in order, and a flush
 abbrev pub hello : List ℕ → List ℕ → List Pkt
@@ -45,42 +35,21 @@ protocol_number Flush = 33
 protocol_number Capability = 34
 
 -- `<prefix>-server`, else 30
-abbrev pub is_server : Option (List ℕ) → Bool
-is_server None = false
-is_server (Some rest) = bytes_eq rest (codes "-server")
-
 abbrev pub welcomed : List ℕ → Option (List ℕ) → Result (Unit {0}) ℕ
-welcomed prefix None = Err (protocol_number Welcome)
-welcomed prefix (Some t) = cond (is_server (after_prefix prefix t)) (Ok tt) (Err (protocol_number Welcome))
+welcomed prefix t = cond (greets prefix (codes "-server") t) (Ok tt) (Err (protocol_number Welcome))
 
 -- a number, else 31, that was offered, else 32
 abbrev pub offered : List ℕ → Option ℕ → Result ℕ ℕ
 offered versions None = Err (protocol_number Version)
 offered versions (Some n) = cond (is_some (first_equal nat_eq n versions)) (Ok n) (Err (protocol_number NotOffered))
 
-abbrev pub version_in : List ℕ → Kind → Result ℕ ℕ
-version_in versions (status s) = Err (protocol_number Version)
-version_in versions (capability s) = Err (protocol_number Version)
-version_in versions (version s) = offered versions (number_of s)
-version_in versions (pathname s) = Err (protocol_number Version)
-version_in versions (other l) = Err (protocol_number Version)
-
 abbrev pub chosen : List ℕ → Option (List ℕ) → Result ℕ ℕ
-chosen versions None = Err (protocol_number Version)
-chosen versions (Some t) = version_in versions (kind_of t)
+chosen versions t = offered versions (version_in t)
 
 -- a flush, else 33
 abbrev pub ended : Option (List ℕ) → Result (Unit {0}) ℕ
 ended None = Ok tt
 ended (Some t) = Err (protocol_number Flush)
-
--- the name in a `capability=` line
-abbrev pub capability_in : Kind → Option (List ℕ)
-capability_in (status s) = None
-capability_in (capability s) = Some s
-capability_in (version s) = None
-capability_in (pathname s) = None
-capability_in (other l) = None
 
 -- a desired name sets its bit; one that is not desired is 34
 abbrev pub at_place : ℕ → Option ℕ → Result ℕ ℕ
@@ -106,15 +75,6 @@ abbrev pub mask_after : List Name → ℕ → List (List ℕ) → Result ℕ ℕ
 mask_after names m ts = mask_then names (Ok m) ts
 
 -- The talk
-
--- one talk after another, unless the first was told what it must not be
-abbrev pub if_right : {A B : Type 0} → (A → Wire → Got (Result B ℕ)) → Result A ℕ → Wire → Got (Result B ℕ)
-if_right f (Ok a) v = f a v
-if_right f (Err n) v = got (Err n) v
-
--- a line of text, judged
-abbrev pub read_judged : {A : Type 0} → (Option (List ℕ) → Result A ℕ) → Wire → Got (Result A ℕ)
-read_judged judge v = then (read_text v) (λ t u. got (judge t) u)
 
 abbrev pub names_turn : Result ℕ ℕ → Turn ℕ (Result ℕ ℕ)
 names_turn (Ok m) = goes m []
@@ -188,16 +148,5 @@ pub record HandshakeLaw (prefix versions : List ℕ) (names : List Name) (sent g
   pub only : (v m : ℕ) → r ≡ Ok (Ok (shaken v m)) → Agreed prefix versions names given v m
   pub all : (v m : ℕ) → Agreed prefix versions names given v m → r ≡ Ok (Ok (shaken v m))
 
--- an answer of the code: a value by its meaning, what the process must not say by its number, or the fault of the line
-abbrev pub heard : {X Y : Type 0} → (X → Y) → Result X Refusal → Result (Result Y ℕ) LineFault
-heard f (Ok x) = Ok (Ok (f x))
-heard f (Err (Line e)) = Err e
-heard f (Err (Wrong p)) = Ok (Err (protocol_number p))
-
 abbrev pub shaken_by : Agreement → Shaken
 shaken_by c = shaken c.version c.capabilities.mask
-
--- the number of each case
-abbrev pub refusal_number : Refusal → ℕ
-refusal_number (Line e) = line_number e
-refusal_number (Wrong p) = protocol_number p

@@ -2,13 +2,13 @@
 ghost use Rattle.std.specs.Prelude.{◌≤◌, length};
 ghost use Rattle.slices.specs.Names.{name_bytes};
 ghost use Rattle.process.specs.Peers.{DoesBy};
-ghost use Rattle.handshake.specs.Handshakes.{handshake as handshaken, heard, shaken_by, HandshakeLaw};
+ghost use Rattle.handshake.specs.Judged.{heard};
+ghost use Rattle.handshake.specs.Handshakes.{handshake as handshaken, protocol_number, shaken_by, HandshakeLaw};
 
 use crate::agreement::Agreement;
-use crate::parts::{
-    judge_end, judge_version, judge_welcome, read_judged, read_names, send_desired, send_hello,
-};
-use crate::protocol::Refusal;
+use crate::judged::read_judged;
+use crate::parts::{judge_end, judge_version, judge_welcome, read_names, send_desired, send_hello};
+use crate::protocol::{Protocol, Refusal};
 use host::host::Host;
 use host::peer::Peer;
 use slices::name::Name;
@@ -20,9 +20,9 @@ pub fn handshake<H: Host>(
     prefix: &Name,
     versions: &[u64],
     names: &[Name],
-) -> Result<Agreement, Refusal>
+) -> Result<Agreement, Refusal<Protocol>>
     requires { length names.now ≤ 32 }
-    ensures { DoesBy H.log H.world (HandshakeLaw (name_bytes prefix.now) versions.now names.now) (handshaken (name_bytes prefix.now) versions.now names.now) peer.old (heard shaken_by result) peer.new }
+    ensures { DoesBy H.log H.world (HandshakeLaw (name_bytes prefix.now) versions.now names.now) (handshaken (name_bytes prefix.now) versions.now names.now) peer.old (heard protocol_number shaken_by result) peer.new }
 {
     send_hello(peer, prefix, versions)?;
     read_judged(peer, |line: Option<&[u8]>| judge_welcome(line, prefix))?;

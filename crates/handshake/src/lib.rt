@@ -1,7 +1,10 @@
-//! The client's handshake with a process.
+//! The handshake of a client with a process, and of a server with its client.
 #![tactic(auto)]
 
 pub mod agreement;
 pub mod inner;
+mod hearing;
+mod judged;
 mod parts;
 pub mod protocol;
+pub mod shared;

@@ -9,3 +9,4 @@ pub mod Sends
 pub mod Parts
 pub mod Wants
 pub mod Peering
+pub mod Knowing

@@ -11,19 +11,19 @@ use Rattle.host.specs.Talk.{Areas, Wire, wire, Got, got, lost, ends, hear, read,
 use Rattle.host.specs.Calls.{Streamed}
 
 -- the answer and the process of a talk
-abbrev answer_of : {A : Type 0} → Got A → Result A LineFault
+abbrev pub answer_of : {A : Type 0} → Got A → Result A LineFault
 answer_of (got a v) = Ok a
 answer_of (lost f v) = Err f
 
-abbrev end_of : {A : Type 0} → Got A → Process
+abbrev pub end_of : {A : Type 0} → Got A → Process
 end_of (got a v) = v.end
 end_of (lost f v) = v.end
 
-ends_answer : {A : Type 0} (r : Result A LineFault) (v : Wire) → answer_of (ends r v) ≡ r
+pub ends_answer : {A : Type 0} (r : Result A LineFault) (v : Wire) → answer_of (ends r v) ≡ r
 ends_answer (Ok a) v = refl
 ends_answer (Err f) v = refl
 
-ends_end : {A : Type 0} (r : Result A LineFault) (v : Wire) → end_of (ends r v) ≡ v.end
+pub ends_end : {A : Type 0} (r : Result A LineFault) (v : Wire) → end_of (ends r v) ≡ v.end
 ends_end (Ok a) v = refl
 ends_end (Err f) v = refl
 

@@ -6,7 +6,7 @@ use Rattle.host.specs.declared.fault.Fault.{Fault}
 use Rattle.host.specs.declared.fault.Fault.TheVariants.{Broken}
 use Rattle.host.specs.declared.host.How.{How}
 use Rattle.host.specs.Faults.{snag_fault}
-use Rattle.host.specs.Worlds.{Reply, Pipe, Process, gone, live, World, process, with_process, waits, taken, stop}
+use Rattle.host.specs.Worlds.{Reply, reply_of, replies_after, Pipe, Process, gone, live, World, process, with_process, waits, taken, stop}
 
 -- a command can be started if the host says so and its list has a place left
 abbrev pub can_start : ℕ → World → List ℕ → Bool
@@ -34,13 +34,19 @@ abbrev pub refusal_of : Process → ℕ → Result (Unit {0}) Fault
 refusal_of gone n = Err Broken
 refusal_of (live q) n = cond (nat_le n q.allowance) (Ok tt) (Err (snag_fault q.snag))
 
--- the process after a send: its allowance falls, its reply joins what waits, and later is its next reply; a refusal changes nothing
+-- an open process after it took these bytes: its allowance falls, and its reply joins what waits; later is its next reply where that is free
+abbrev pub pipe_after : Pipe → List ℕ → Reply → Pipe
+pipe_after q bytes later =
+    record q {
+      waiting = q.waiting ++ reply_of q.replies bytes (some_wait q.waiting);
+      allowance = q.allowance - length bytes;
+      replies = replies_after q.replies bytes (some_wait q.waiting) later;
+    }
+
+-- the process after a send; a refusal changes nothing
 abbrev pub sent_to : Process → List ℕ → Reply → Process
 sent_to gone bytes later = gone
-sent_to (live q) bytes later =
-    cond (nat_le (length bytes) q.allowance)
-    (live (record { waiting = q.waiting ++ q.reply bytes (some_wait q.waiting); ending = q.ending; allowance = q.allowance - length bytes; snag = q.snag; reply = later }))
-    (live q)
+sent_to (live q) bytes later = cond (nat_le (length bytes) q.allowance) (live (pipe_after q bytes later)) (live q)
 
 abbrev pub sent : World → ℕ → List ℕ → Reply → World
 sent w p bytes later = with_process w p (sent_to (process w p) bytes later)

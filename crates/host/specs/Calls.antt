@@ -1,5 +1,5 @@
 -- The calls that users make: why they refuse, and what a reader tells of its stream.
-use Rattle.std.specs.Prelude.{◌≡◌, ℕ, true, cond, List, [], ◌++◌, length, Some, None, Ok, Err, Option, Result, ◌≢◌, nat_le}
+use Rattle.std.specs.Prelude.{◌≡◌, ℕ, Bool, true, cond, List, [], ◌++◌, length, Some, None, Ok, Err, Option, Result, ◌≢◌, nat_le}
 use Rattle.packetline.specs.Packets.{Pkt, sendable, packet, lowered}
 use Rattle.host.specs.declared.fault.Fault.{Fault}
 use Rattle.host.specs.declared.fault.LineFault.{LineFault}
@@ -21,13 +21,17 @@ pub record Streamed (ws : List ℕ) (r : Result Pkt LineFault) (ws' : List ℕ) 
   pub stops : (f : Fault) → r ≡ Err (Host f)
       → (ws' ≡ []) × ((p : Pkt) (bytes rest : List ℕ) → sendable p ≡ true → lowered bytes ≡ packet p → ws ≢ bytes ++ rest)
 
--- the fault of a caller who lends an area: 1 where the longest packet has no room there
+-- whether the longest packet has room in an area
+abbrev pub has_room : List ℕ → Bool
+has_room area = nat_le 65520 (length area)
+
+-- the fault of a caller who lends an area: 1 where it has no room
 abbrev pub room : List ℕ → Option AreaTooShort
-room area = cond (nat_le 65520 (length area)) None (Some too_short)
+room area = cond (has_room area) None (Some too_short)
 
 -- the fault of a caller who sends a packet: 1 as above, then 2 where the packet cannot be sent
 abbrev pub judged : Pkt → List ℕ → Option Misuse
-judged p area = cond (nat_le 65520 (length area)) (cond (sendable p) None (Some OutsideLimits)) (Some Short)
+judged p area = cond (has_room area) (cond (sendable p) None (Some OutsideLimits)) (Some Short)
 
 -- A call that judges its arguments: where its caller is at fault it answers that, and all is as it was; else it goes on.
 abbrev pub Checked : {A C E : Type 0} → Option C → (Result A E → Type 0) → Type 0 → Result A (CallError C E) → Type 0

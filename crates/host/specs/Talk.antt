@@ -45,6 +45,10 @@ pub record Areas : Type 0 where
 abbrev pub areas : List ℕ → List ℕ → Areas
 areas w s = record { work = w; status = s }
 
+-- the first 128 bytes of a status name, over the front of a status area
+abbrev pub name_over : List ℕ → List ℕ → List ℕ
+name_over name area = over (take 128 name) area
+
 -- The overlay rule. Each framed packet, taken or refused, and each payload given, or what came of a cut one, is laid over the front of the work
 -- area; the four bytes of a header are not, so a header cut short lays nothing. The first 128 bytes of a status name are laid over the front of
 -- the status area. The rest stays.
@@ -52,7 +56,7 @@ abbrev pub lay_one : Event → Areas → Areas
 lay_one (took b) a = areas (over b a.work) a.status
 lay_one (refused b) a = areas (over b a.work) a.status
 lay_one (gave b) a = areas (over (drop 4 b) a.work) a.status
-lay_one (noted s) a = areas a.work (over (take 128 s) a.status)
+lay_one (noted s) a = areas a.work (name_over s a.status)
 
 abbrev pub lay : List Event → Areas → Areas
 lay [] a = a

@@ -1,25 +1,55 @@
 -- What a host means: the processes that it started, in order, and which commands it can start now.
-use Rattle.std.specs.Prelude.{ℕ, Bool, List, [], drop, slice_index_or, slice_set}
+use Rattle.std.specs.Prelude.{◌≡◌, ℕ, Bool, List, [], ◌∷◌, drop, slice_index_or, slice_set}
 use Rattle.host.specs.declared.fault.Fault.{Fault}
 use Rattle.host.specs.declared.fault.Fault.TheVariants.{Broken}
 use Rattle.host.specs.declared.fault.Snag.{Snag}
 
--- what a process adds to its waiting bytes at its next send, by the bytes sent and by whether bytes wait then
+-- what a process adds to its waiting bytes at a send that it takes, by the bytes sent and by whether bytes wait then
 abbrev pub Reply : Type 0
 Reply = List ℕ → Bool → List ℕ
 
--- an open process: the bytes that wait, what is met when none waits, how many bytes it still takes, what is met beyond that, and its next reply
+-- a send that a process took: the bytes sent, and whether bytes waited then
+pub record Said : Type 0 where
+  pub bytes : List ℕ
+  pub waited : Bool
+
+abbrev pub said : List ℕ → Bool → Said
+said bytes waited = record { bytes = bytes; waited = waited }
+
+-- what a process adds at its sends to come
+pub data Replies : Type 0 where
+  -- at its next one; those after it are free
+  next : Reply → Replies
+  -- at all of them: after these sends, the first one first, at the one that follows
+  known : (List Said → Reply) → Replies
+
+-- the reply to the next send
+abbrev pub reply_of : Replies → Reply
+reply_of (next r) = r
+reply_of (known k) = k []
+
+-- the replies to come after a send; later is the next of them where that is free
+abbrev pub replies_after : Replies → List ℕ → Bool → Reply → Replies
+replies_after (next r) bytes waited later = next later
+replies_after (known k) bytes waited later = known (λ sends. k (said bytes waited ∷ sends))
+
+-- an open process: the bytes that wait, what is met when none waits, how many bytes it still takes, what is met beyond that, and its replies to come
 pub record Pipe : Type 0 where
   pub waiting : List ℕ
   pub ending : Fault
   pub allowance : ℕ
   pub snag : Snag
-  pub reply : Reply
+  pub replies : Replies
 
 -- of a process that is not open only its place is kept
 pub data Process : Type 0 where
   gone : Process
   live : Pipe → Process
+
+-- nothing that a process will reply is free: all is known, or it is not open
+abbrev pub Known : Process → Type 0
+Known gone = Unit {0}
+Known (live q) = (k : List Said → Reply) × (q.replies ≡ known k)
 
 pub record World : Type 0 where
   pub procs : List Process
@@ -44,7 +74,7 @@ waits w p = waiting_of (process w p)
 -- the process where other bytes wait
 abbrev pub waiting_now : List ℕ → Process → Process
 waiting_now ws gone = gone
-waiting_now ws (live q) = live (record { waiting = ws; ending = q.ending; allowance = q.allowance; snag = q.snag; reply = q.reply })
+waiting_now ws (live q) = live (record q { waiting = ws })
 
 -- the process without the first n bytes that wait
 abbrev pub less : ℕ → Process → Process

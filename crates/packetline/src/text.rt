@@ -1,5 +1,5 @@
 //! Payloads that are text, and numbers in digits.
-ghost use Rattle.std.specs.Prelude.{◌≡◌, ◌<◌, length, drop, Some, IsUtf8, decimal as decimal_of, Decides};
+ghost use Rattle.std.specs.Prelude.{◌≡◌, ◌<◌, length, take, drop, Some, IsUtf8, decimal as decimal_of, Decides};
 ghost use Rattle.slices.specs.Answers.{told};
 ghost use Rattle.packetline.specs.declared.text.Error.TheVariants.{NotUtf8};
 ghost use Rattle.packetline.specs.Text.{IsText, number_of, text_number, text_of, utf8};
@@ -53,6 +53,7 @@ pub fn number(digits: &[u8]) -> Option<u64>
 /// The decimal digits of `n`, at the end of `digits`, and where they begin.
 pub fn decimal(n: u64, digits: &mut [u8; 20]) -> usize
     ensures value { drop result digits.new ≡ decimal_of n }
+    ensures stays { take result digits.new ≡ take result digits.old }
     ensures bound { result < 20 }
     ensures len { length digits.new ≡ 20 }
     ensures law { number_of (decimal_of n) ≡ Some n }

@@ -3,13 +3,13 @@ use Rattle.std.proofs.Common.{◌≡◌, ℕ, ◌-◌, ◌<◌, ◌≤◌, min, 
 use Rattle.std.proofs.lemmas.List.{take_all, length-take}
 use Rattle.std.proofs.lemmas.Bool.{cases_lt}
 use Rattle.std.proofs.lemmas.Bool.Decides.{nat_tests}
-use Rattle.packetline.specs.Packets.{over}
+use Rattle.host.specs.Talk.{name_over}
 use Rattle.process.specs.Given.{rooms}
 
 pub rooms_there : (work status : List ℕ) → 65520 ≤ length work → 128 ≤ length status → rooms work status ≡ None
 rooms_there work status h k = grind (arith, nat_tests)
 
-pub name_laid : (name status part : List ℕ) (n : ℕ) → n ≡ min (length name) 128 → part ≡ take (n - 0) name → part ++ drop (n - 0) status ≡ over (take 128 name) status
+pub name_laid : (name status part : List ℕ) (n : ℕ) → n ≡ min (length name) 128 → part ≡ take (n - 0) name → part ++ drop (n - 0) status ≡ name_over name status
 name_laid name status part n e f =
     let z : n - 0 ≡ n = omega arith in
     let front : take (n - 0) name ≡ take 128 name =

@@ -1,6 +1,7 @@
 pub mod Laid
 pub mod Gathers
 pub mod Passes
+pub mod Reading
 pub mod Packetwise
 pub mod LineKinds
 pub mod Tellings

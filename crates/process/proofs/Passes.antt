@@ -1,9 +1,9 @@
 -- What passes in a talk, as packets.
-use Rattle.std.proofs.Common.{◌≡◌, ℕ, zero, suc, ◌+◌, ◌<◌, Bool, true, false, cond, leb, List, [], ◌∷◌, ◌++◌, length, Some, None, Ok, Err, Option, Result, sym, refl, ap, ◌∙◌, subst, arith}
-use Rattle.std.proofs.lemmas.List.{append_assoc, append-nil, take-append-drop}
+use Rattle.std.proofs.Common.{◌≡◌, ℕ, zero, suc, ◌+◌, ◌<◌, ◌≤◌, Bool, true, false, cond, leb, List, [], ◌∷◌, ◌++◌, length, Some, None, Ok, Err, Option, Result, sym, refl, ap, ◌∙◌, subst, arith}
+use Rattle.std.proofs.lemmas.List.{append_assoc, append-nil, length-append, take-append-drop}
 use Rattle.std.proofs.lemmas.Bool.{cond_both}
 use Rattle.packetline.specs.declared.packet.Packet.{Packet}
-use Rattle.packetline.specs.Packets.{header, payload_length, Pkt, flush, delimiter, response_end, line, packet, packets, Front, whole, bad, short, fronted, front, Decoded, and_more, decode, flush_one, flushes_of}
+use Rattle.packetline.specs.Packets.{header, payload_length, Pkt, flush, delimiter, response_end, line, packet, packets, Front, whole, bad, short, fronted, front, Decoded, and_more, decode, flushes_of}
 use Rattle.packetline.specs.Text.{utf8, trim_end, text_of}
 use Rattle.packetline.proofs.Decoding.{decode_more, shorter}
 use Rattle.packetline.proofs.Exact.{reads_sent}
@@ -215,7 +215,14 @@ AllSent ps gs ss a = (gs ≡ []) × (ss ≡ ps)
 abbrev pub NoneGiven : List Pkt → List Pkt → Type 0
 NoneGiven gs ss = gs ≡ []
 
-sent_by_passes : (p : Pkt) (v : Wire) (r : Result (Unit {0}) Fault) → Passes (AllSent (p ∷ [])) NoneGiven v (sent_by r (packet p) v)
+-- some of the packets were sent, up to one that was refused
+abbrev pub PartSent : List Pkt → List Pkt → List Pkt → Type 0
+PartSent ps gs ss = (gs ≡ []) × ((x : Pkt) × ((rest : List Pkt) × (ps ≡ ss ++ x ∷ rest)))
+
+abbrev Nothing : List Pkt → List Pkt → Type 0
+Nothing gs ss = (gs ≡ []) × (ss ≡ [])
+
+sent_by_passes : (p : Pkt) (v : Wire) (r : Result (Unit {0}) Fault) → Passes (AllSent (p ∷ [])) Nothing v (sent_by r (packet p) v)
 sent_by_passes p v (Ok u) = record {
   by = (
     [],
@@ -231,20 +238,39 @@ sent_by_passes p v (Ok u) = record {
     ),
   );
 }
-sent_by_passes p v (Err f) = record { by = ([], ([], until_none v _ refl refl, refl)) }
+sent_by_passes p v (Err f) = record { by = ([], ([], until_none v _ refl refl, (refl, refl))) }
 
-send_passes : (p : Pkt) (v : Wire) → Passes (AllSent (p ∷ [])) NoneGiven v (send p v)
+send_passes : (p : Pkt) (v : Wire) → Passes (AllSent (p ∷ [])) Nothing v (send p v)
 send_passes p v = sent_by_passes p v (refusal_of v.end (length (packet p)))
 
-pub send_all_passes : (ps : List Pkt) (v : Wire) → Passes (AllSent ps) NoneGiven v (send_all ps v)
-send_all_passes [] v = passes_got tt v (refl, refl)
-send_all_passes (p ∷ ps) v =
+pub part_passes : (ps : List Pkt) (v : Wire) → Passes (AllSent ps) (PartSent ps) v (send_all ps v)
+part_passes [] v = passes_got tt v (refl, refl)
+part_passes (p ∷ ps) v =
     passes_then (λ _ u. send_all ps u) v (send p v) (send_passes p v)
     (λ gs ss a u h.
-    passes_so u (send_all ps u) (send_all_passes ps u)
+    passes_so u (send_all ps u) (part_passes ps u)
     (λ hs ts b k. (ap (λ xs. xs ++ hs) h.0 ∙ k.0, ap (λ xs. xs ++ ts) h.1 ∙ ap (λ xs. p ∷ xs) k.1))
-    (λ hs ts k. ap (λ xs. xs ++ hs) h.0 ∙ k))
-    (λ gs ss h. h)
+    (λ hs ts k. (ap (λ xs. xs ++ hs) h.0 ∙ k.0, (k.1.0, (k.1.1.0, ap (λ xs. p ∷ xs) k.1.1.1 ∙ ap (λ xs. (xs ++ ts) ++ k.1.0 ∷ k.1.1.0) (sym h.1))))))
+    (λ gs ss h. (h.0, (p, (ps, ap (λ xs. xs ++ p ∷ ps) (sym h.1)))))
+
+pub send_all_passes : (ps : List Pkt) (v : Wire) → Passes (AllSent ps) NoneGiven v (send_all ps v)
+send_all_passes ps v = passes_so v (send_all ps v) (part_passes ps v) (λ gs ss a h. h) (λ gs ss h. h.0)
+
+-- what was sent before a refused packet is not all
+packet_long : (p : Pkt) → 4 ≤ length (packet p)
+packet_long flush = omega arith
+packet_long delimiter = omega arith
+packet_long response_end = omega arith
+packet_long (line l) = omega arith
+
+pub part_less : (ps ss : List Pkt) (x : Pkt) (rest : List Pkt) → ps ≡ ss ++ x ∷ rest → packets ss ≡ packets ps → ⊥
+part_less ps ss x rest e h =
+    let whole : packets ss ≡ packets ss ++ (packet x ++ packets rest) = h ∙ ap packets e ∙ packets_append ss (x ∷ rest) in
+    let a = ap length whole in
+    let b = length-append (packets ss) (packet x ++ packets rest) in
+    let c = length-append (packet x) (packets rest) in
+    let d = packet_long x in
+    omega (arith, a, b, c, d)
 
 -- Reading
 
@@ -297,28 +323,59 @@ NoContent gs ss = (flushes_of gs ≡ 0) × (ss ≡ []) × ((l : List ℕ) → gs
 right_nil : {X : Type 0} (xs : List X) (ys : List X) → xs ≡ ys → xs ++ [] ≡ ys
 right_nil xs ys e = append-nil xs ∙ e
 
-no_flushes : (p : Pkt) (gs ss : List Pkt) → flush_one p ≡ 0 → OneRead gs ss p → NoFlush (gs ++ []) (ss ++ [])
-no_flushes p gs ss z h = (ap flushes_of (right_nil gs _ h.0) ∙ (let k : flush_one p + 0 ≡ 0 = omega (arith, z) in k), right_nil ss _ h.1)
+-- no content was given: less than a packet, or a marker
+abbrev pub Unread : List Pkt → Type 0
+Unread [] = Unit {0}
+Unread (flush ∷ ps) = ⊥
+Unread (delimiter ∷ ps) = ps ≡ []
+Unread (response_end ∷ ps) = ps ≡ []
+Unread (line l ∷ ps) = ⊥
 
-no_contents : (p : Pkt) (gs ss : List Pkt) → flush_one p ≡ 0 → ((l : List ℕ) → p ≡ line l → ⊥) → OneRead gs ss p → NoContent (gs ++ []) (ss ++ [])
-no_contents p gs ss z other h =
-    let k = no_flushes p gs ss z h in
-    (k.0, k.1, λ l e. let one = right_nil gs _ h.0 in let same : p ≡ line l = cc in other l same)
+-- no text was given: no content, or a line that is no text
+abbrev pub Untold : List Pkt → Type 0
+Untold [] = Unit {0}
+Untold (flush ∷ ps) = ⊥
+Untold (delimiter ∷ ps) = ps ≡ []
+Untold (response_end ∷ ps) = ps ≡ []
+Untold (line l ∷ ps) = (utf8 l ≡ false) × (ps ≡ [])
 
-wanted_passes : (p : Pkt) (gs ss : List Pkt) (u : Wire) → OneRead gs ss p → Passes (λ hs ts o. Content (gs ++ hs) (ss ++ ts) o) (λ hs ts. NoContent (gs ++ hs) (ss ++ ts)) u (wanted p u)
+abbrev pub Silent : (List Pkt → Type 0) → List Pkt → List Pkt → Type 0
+Silent Q gs ss = (ss ≡ []) × Q gs
+
+unread_untold : (gs : List Pkt) → Unread gs → Untold gs
+unread_untold [] h = tt
+unread_untold (flush ∷ ps) h = h
+unread_untold (delimiter ∷ ps) h = h
+unread_untold (response_end ∷ ps) h = h
+unread_untold (line l ∷ ps) h = absurd h
+
+untold_flushes : (gs : List Pkt) → Untold gs → flushes_of gs ≡ 0
+untold_flushes [] h = refl
+untold_flushes (flush ∷ ps) h = absurd h
+untold_flushes (delimiter ∷ ps) h = let k : flushes_of ps ≡ 0 = ap flushes_of h in omega arith
+untold_flushes (response_end ∷ ps) h = let k : flushes_of ps ≡ 0 = ap flushes_of h in omega arith
+untold_flushes (line l ∷ ps) h = let k : flushes_of ps ≡ 0 = ap flushes_of h.1 in omega arith
+
+unread_line : (gs : List Pkt) (l : List ℕ) → Unread gs → gs ≡ line l ∷ [] → ⊥
+unread_line gs l h e = subst Unread e h
+
+-- nothing more was given, and nothing sent
+last : (Q : List Pkt → Type 0) (gs ss qs : List Pkt) → gs ≡ qs → ss ≡ [] → Q qs → Silent Q (gs ++ []) (ss ++ [])
+last Q gs ss qs e f q = (right_nil ss _ f, subst Q (sym (right_nil gs _ e)) q)
+
+wanted_passes : (p : Pkt) (gs ss : List Pkt) (u : Wire) → OneRead gs ss p → Passes (λ hs ts o. Content (gs ++ hs) (ss ++ ts) o) (λ hs ts. Silent Unread (gs ++ hs) (ss ++ ts)) u (wanted p u)
 wanted_passes flush gs ss u h = passes_got None u (right_nil gs _ h.0, right_nil ss _ h.1)
-wanted_passes delimiter gs ss u h = passes_lost _ u (no_contents delimiter gs ss refl (λ l e. let z : ◌≡◌ {A = ℕ} 0 1 = cc in omega arith) h)
-wanted_passes response_end gs ss u h = passes_lost _ u (no_contents response_end gs ss refl (λ l e. let z : ◌≡◌ {A = ℕ} 0 1 = cc in omega arith) h)
+wanted_passes delimiter gs ss u h = passes_lost _ u (last Unread gs ss (delimiter ∷ []) h.0 h.1 refl)
+wanted_passes response_end gs ss u h = passes_lost _ u (last Unread gs ss (response_end ∷ []) h.0 h.1 refl)
 wanted_passes (line l) gs ss u h = passes_got (Some l) u (right_nil gs _ h.0, right_nil ss _ h.1)
 
--- content, or a fault before any
+-- content, or none
+unread_passes : (v : Wire) → Passes Content (Silent Unread) v (read_content v)
+unread_passes v = passes_then wanted v (read v) (whole_passes v) (λ gs ss p u h. wanted_passes p gs ss u h) (λ gs ss h. (h.1, subst Unread (sym h.0) tt))
+
 pub only_content_passes : (v : Wire) → Passes Content NoContent v (read_content v)
 only_content_passes v =
-    passes_then wanted v (read v) (whole_passes v) (λ gs ss p u h. wanted_passes p gs ss u h)
-    (λ gs ss h. (ap flushes_of h.0, h.1, λ l e. let none = h.0 in let z : ◌≡◌ {A = ℕ} 0 1 = cc in omega arith))
-
-pub content_passes : (v : Wire) → Passes Content NoFlush v (read_content v)
-content_passes v = passes_so v (read_content v) (only_content_passes v) (λ gs ss o h. h) (λ gs ss h. (h.0, h.1))
+    passes_so v (read_content v) (unread_passes v) (λ gs ss o h. h) (λ gs ss h. (untold_flushes gs (unread_untold gs h.1), h.0, λ l e. unread_line gs l h.1 e))
 
 -- one packet of text
 abbrev pub AText : List Pkt → List Pkt → Option (List ℕ) → Type 0
@@ -329,18 +386,27 @@ text_is : (b : Bool) (t u : List ℕ) (n : ℕ) → ◌≡◌ {A = Result (List 
 text_is true t u n e = (refl, cc)
 text_is false t u n e = let z : ◌≡◌ {A = ℕ} 0 1 = cc in absurd (omega arith)
 
+text_not : (b : Bool) (u : List ℕ) (n m : ℕ) → ◌≡◌ {A = Result (List ℕ) ℕ} (cond b (Ok u) (Err n)) (Err m) → b ≡ false
+text_not true u n m e = let z : ◌≡◌ {A = ℕ} 0 1 = cc in absurd (omega arith)
+text_not false u n m e = refl
+
 texted_passes : (l : List ℕ) (r : Result (List ℕ) ℕ) → text_of l ≡ r → (gs ss : List Pkt) (u : Wire) → Content gs ss (Some l)
-    → Passes (λ hs ts o. AText (gs ++ hs) (ss ++ ts) o) (λ hs ts. NoFlush (gs ++ hs) (ss ++ ts)) u (texted r u)
+    → Passes (λ hs ts o. AText (gs ++ hs) (ss ++ ts) o) (λ hs ts. Silent Untold (gs ++ hs) (ss ++ ts)) u (texted r u)
 texted_passes l (Ok t) e gs ss u h = let k = text_is _ _ _ _ e in passes_got (Some t) u (l, right_nil gs _ h.0, k.0, k.1, right_nil ss _ h.1)
-texted_passes l (Err n) e gs ss u h = passes_lost _ u (no_flushes (line l) gs ss refl h)
+texted_passes l (Err n) e gs ss u h = passes_lost _ u (last Untold gs ss (line l ∷ []) h.0 h.1 (text_not _ _ _ _ e, refl))
 
 text_in_passes : (o : Option (List ℕ)) (gs ss : List Pkt) (u : Wire) → Content gs ss o
-    → Passes (λ hs ts x. AText (gs ++ hs) (ss ++ ts) x) (λ hs ts. NoFlush (gs ++ hs) (ss ++ ts)) u (text_in o u)
+    → Passes (λ hs ts x. AText (gs ++ hs) (ss ++ ts) x) (λ hs ts. Silent Untold (gs ++ hs) (ss ++ ts)) u (text_in o u)
 text_in_passes None gs ss u h = passes_got None u (right_nil gs _ h.0, right_nil ss _ h.1)
 text_in_passes (Some l) gs ss u h = texted_passes l (text_of l) refl gs ss u h
 
+-- text, or none
+pub only_text_passes : (v : Wire) → Passes AText (Silent Untold) v (read_text v)
+only_text_passes v =
+    passes_then text_in v (read_content v) (unread_passes v) (λ gs ss o u h. text_in_passes o gs ss u h) (λ gs ss h. (h.0, unread_untold gs h.1))
+
 pub text_passes : (v : Wire) → Passes AText NoFlush v (read_text v)
-text_passes v = passes_then text_in v (read_content v) (content_passes v) (λ gs ss o u h. text_in_passes o gs ss u h) (λ gs ss h. h)
+text_passes v = passes_so v (read_text v) (only_text_passes v) (λ gs ss o h. h) (λ gs ss h. (untold_flushes gs h.1, h.0))
 
 -- Reading on
 

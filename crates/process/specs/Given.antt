@@ -5,6 +5,7 @@ use Rattle.packetline.specs.Text.{utf8}
 use Rattle.host.specs.declared.call.AreaTooShort.{AreaTooShort}
 use Rattle.host.specs.declared.fault.LineFault.{LineFault}
 use Rattle.host.specs.Refusals.{too_short}
+use Rattle.host.specs.Calls.{has_room}
 use Rattle.host.specs.Talk.{Wire, Got, Areas, areas, Sight, Talks, bytes_sent, bytes_given}
 
 -- bytes decode to these packets, and nothing is left
@@ -28,6 +29,10 @@ TalksBy law f w p a r w' a' = (t : Talks f w p a r w' a') × law (bytes_sent t.e
 abbrev pub WorksBy : {A : Type 0} → Law A → (Wire → Got A) → Sight → ℕ → List ℕ → Result A LineFault → Sight → List ℕ → Type 0
 WorksBy law f w p work r w' work' = (status : List ℕ) → TalksBy law f w p (areas work status) r w' (areas work' status)
 
--- the fault of a caller who lends a work area and a status area: 1 where one of them is too short
+-- whether a work area and a status area have room for what may be laid there
+abbrev pub have_room : List ℕ → List ℕ → Bool
+have_room work status = has_room work && nat_le 128 (length status)
+
+-- the fault of a caller who lends a work area and a status area: 1 where one of them has no room
 abbrev pub rooms : List ℕ → List ℕ → Option AreaTooShort
-rooms work status = cond (nat_le 65520 (length work) && nat_le 128 (length status)) None (Some too_short)
+rooms work status = cond (have_room work status) None (Some too_short)

@@ -1,12 +1,12 @@
 -- A status: what a process says of a command, in lines up to a flush.
-use Rattle.std.specs.Prelude.{◌≡◌, ℕ, Bool, true, false, cond, List, [], ◌∷◌, ◌++◌, map, length, take, Some, None, Ok, codes, Option, Result, ◌≢◌}
+use Rattle.std.specs.Prelude.{◌≡◌, ℕ, Bool, true, false, cond, List, [], ◌∷◌, ◌++◌, map, length, Some, None, Ok, codes, Option, Result, ◌≢◌}
 use Rattle.std.specs.List.{AllByRecursion}
 use Rattle.std.specs.Str.{bytes_eq}
-use Rattle.packetline.specs.Packets.{Pkt, flush, line, over}
+use Rattle.packetline.specs.Packets.{Pkt, flush, line}
 use Rattle.packetline.specs.Lines.{Kind, status, capability, version, pathname, other, kind_of, NotAfter}
 use Rattle.packetline.specs.Text.{trim_end}
 use Rattle.host.specs.declared.fault.LineFault.{LineFault}
-use Rattle.host.specs.Talk.{Event, noted, Wire, Got, read_text}
+use Rattle.host.specs.Talk.{Event, noted, name_over, Wire, Got, read_text}
 use Rattle.process.specs.declared.status.Word.{Word}
 use Rattle.process.specs.declared.status.Word.TheVariants.{Success, Delayed, Abort, Error, Other}
 use Rattle.process.specs.declared.status.Status.{Status}
@@ -67,9 +67,9 @@ abbrev pub noted_by : Option (List ℕ) → List Event
 noted_by (Some s) = noted s ∷ []
 noted_by None = []
 
--- the first 128 bytes of a name are laid over the front of the status area
+-- a name is laid over the front of the status area
 abbrev pub laid_by : Option (List ℕ) → List ℕ → List ℕ
-laid_by (Some s) area = over (take 128 s) area
+laid_by (Some s) area = name_over s area
 laid_by None area = area
 
 abbrev pub status_step : Status → Option (List ℕ) → Turn Status Status

@@ -1,7 +1,7 @@
 //! What this crate lends the next: a status read from a peer.
-ghost use Rattle.std.specs.Prelude.{◌≡◌, take};
-ghost use Rattle.packetline.specs.Packets.{over};
+ghost use Rattle.std.specs.Prelude.{◌≡◌};
 ghost use Rattle.packetline.specs.Lines.{kind_of};
+ghost use Rattle.host.specs.Talk.{name_over};
 ghost use Rattle.process.specs.Peers.{DoesWith};
 ghost use Rattle.process.specs.Statuses.{status_in, told_by, laid_by, read_status as status_read, StatusLaw};
 
@@ -16,7 +16,7 @@ impl StatusArea<'_> {
     /// The first 128 bytes of a name over the front of the area.
     fn lay(&mut self, name: &[u8])
         ensures lent { self.new.bytes.ghost_name ≡ self.old.bytes.ghost_name }
-        ensures laid { self.new.bytes.now ≡ over (take 128 name.now) self.old.bytes.now }
+        ensures laid { self.new.bytes.now ≡ name_over name.now self.old.bytes.now }
     {
         let n = name.len().min(MAX_STATUS_LEN);
         self.bytes[0..n].copy_from_slice(&name[0..n]);

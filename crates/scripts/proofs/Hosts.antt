@@ -1,5 +1,5 @@
 -- What an implementation of a host shows, by the process that its call is about.
-use Rattle.std.proofs.Common.{◌≡◌, ℕ, ◌-◌, ◌<◌, ◌≤◌, leb, List, [], ◌++◌, length, take, drop, set, Ok, Err, sym, refl, ap, ◌∙◌, arith}
+use Rattle.std.proofs.Common.{◌≡◌, ℕ, ◌<◌, ◌≤◌, leb, List, [], ◌++◌, length, take, drop, set, Ok, Err, sym, refl, ap, ◌∙◌, arith}
 use Rattle.std.proofs.lemmas.List.{length-take-le, set-get_or}
 use Rattle.std.proofs.lemmas.Bool.{le-leb, lt-leb, cond-true, cond-false}
 use Rattle.packetline.specs.Packets.{over}
@@ -7,7 +7,7 @@ use Rattle.host.specs.declared.fault.Fault.{Fault}
 use Rattle.host.specs.declared.fault.Fault.TheVariants.{Broken}
 use Rattle.host.specs.Faults.{snag_fault}
 use Rattle.host.specs.Worlds.{Reply, Pipe, Process, gone, live, World, process, with_process, waiting_of, less}
-use Rattle.host.specs.Acts.{Received, Sent, refusal_of, sent_to, sent, some_wait}
+use Rattle.host.specs.Acts.{Received, Sent, refusal_of, pipe_after, sent_to, sent}
 
 module _ (w : World) (p : ℕ) where
   -- the world with a process as it was
@@ -48,7 +48,7 @@ module _ (w : World) (p : ℕ) where
 
       -- bytes within the allowance
       pub sent_whole : (later : Reply) (w' : World) → length bytes ≤ q.allowance
-          → w' ≡ with_process w p (live (record { waiting = q.waiting ++ q.reply bytes (some_wait q.waiting); ending = q.ending; allowance = q.allowance - length bytes; snag = q.snag; reply = later }))
+          → w' ≡ with_process w p (live (pipe_after q bytes later))
           → Sent w p bytes (Ok tt) w'
       sent_whole later w' h f =
           let yes = le-leb (length bytes) q.allowance h in

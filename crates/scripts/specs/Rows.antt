@@ -6,7 +6,7 @@ use Rattle.slices.specs.declared.part.Part.{Part}
 use Rattle.slices.specs.First.{first_from}
 use Rattle.slices.specs.Parts.{part}
 use Rattle.scripts.specs.declared.script.Row.{Row}
-use Rattle.host.specs.Worlds.{Pipe, Process, gone, live, World}
+use Rattle.host.specs.Worlds.{known, Pipe, Process, gone, live, World}
 
 -- a part that lies within the first n bytes
 abbrev pub within : ℕ → Part → Bool
@@ -35,7 +35,7 @@ first_of bytes command places = first_from (place_of bytes command) 0 places
 
 -- the process that plays a row: the row's bytes wait, and it never replies
 abbrev pub pipe : List ℕ → Row → Pipe
-pipe bytes row = record { waiting = part bytes row.plays; ending = row.ending; allowance = row.allowance; snag = row.snag; reply = λ _ _. [] }
+pipe bytes row = record { waiting = part bytes row.plays; ending = row.ending; allowance = row.allowance; snag = row.snag; replies = known (λ _ _ _. []) }
 
 -- a started process plays what is left of its row, or is not open
 abbrev pub played : List ℕ → Option Row → Process

@@ -1,4 +1,4 @@
-use Rattle.std.proofs.Common.{◌≡◌, [], ◌∷◌, codes, Err, refl, ap, ◌∙◌}
+use Rattle.std.proofs.Common.{◌≡◌, [], ◌∷◌, codes, refl}
 use Rattle.host.proofs.Exits.{told_err}
 use Rattle.packetline.specs.Packets.{flush, line_pkt}
 use Rattle.host.proofs.Peering.{begun, sent_more, sent_stop}

@@ -1,4 +1,4 @@
-use Rattle.std.proofs.Common.{Err, refl, ap, ◌∙◌}
+use Rattle.std.proofs.Common.{refl}
 use Rattle.host.proofs.Exits.{told_err}
 use Rattle.host.proofs.Peering.{same_then}
 use Rattle.process.proofs.Peering.{later_with}

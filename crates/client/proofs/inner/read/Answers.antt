@@ -1,4 +1,4 @@
-use Rattle.std.proofs.Common.{◌≤◌, IfSome, Err, refl, ap, ◌∙◌, subst}
+use Rattle.std.proofs.Common.{◌≤◌, IfSome, refl, subst}
 use Rattle.host.proofs.Exits.{told_err}
 use Rattle.host.proofs.Peering.{same_then}
 use Rattle.process.proofs.Peering.{later_with}

@@ -1,4 +1,4 @@
-use Rattle.std.proofs.Common.{[], Err, refl, ap, ◌∙◌, rules}
+use Rattle.std.proofs.Common.{[], refl, rules}
 use Rattle.host.proofs.Exits.{told_err}
 use Rattle.host.proofs.Peering.{same_peer, same_then, later}
 use Rattle.process.proofs.Gathers.{read_falls}

@@ -1,4 +1,3 @@
-use Rattle.std.proofs.Common.{Err, ap, ◌∙◌}
 use Rattle.host.proofs.Exits.{told_err}
 use Rattle.client.proofs.Invokes.{body_stop, body_end}
 use Rattle.client.proofs.inner.send_body.Goals as goal

@@ -1,4 +1,4 @@
-use Rattle.std.proofs.Common.{Err, refl, ap, ◌∙◌, arith}
+use Rattle.std.proofs.Common.{refl, arith}
 use Rattle.host.proofs.Exits.{told_err}
 use Rattle.host.proofs.Peering.{begun, sent_more, sent_stop}
 use Rattle.process.proofs.Lines.{sent_last, sent_then}

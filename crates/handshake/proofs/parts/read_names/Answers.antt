@@ -1,4 +1,4 @@
-use Rattle.std.proofs.Common.{[], Err, ap, ◌∙◌, rules}
+use Rattle.std.proofs.Common.{[], rules}
 use Rattle.host.proofs.Exits.{told_err}
 use Rattle.host.proofs.Peering.{later}
 use Rattle.process.proofs.Gathers.{text_falls}

@@ -1,7 +1,7 @@
-use Rattle.std.proofs.Common.{Err, refl, ap, ◌∙◌, arith}
+use Rattle.std.proofs.Common.{refl, arith}
 use Rattle.host.proofs.Exits.{told_err}
 use Rattle.host.proofs.Peering.{begun, sent_more, sent_stop}
-use Rattle.handshake.specs.Handshakes.{capability_line}
+use Rattle.handshake.specs.Judged.{capability_line}
 use Rattle.process.proofs.Lines.{lines_last, sent_last}
 use Rattle.handshake.proofs.Places.{names_next}
 use Rattle.handshake.proofs.parts.send_desired.Goals as goal

@@ -2,7 +2,8 @@ use Rattle.std.proofs.Common.{[], ◌∷◌, ◌++◌, map, drop}
 use Rattle.packetline.specs.Packets.{flush}
 use Rattle.host.specs.Talk.{send_all}
 use Rattle.host.proofs.Peering.{OnTheWay}
-use Rattle.handshake.specs.Handshakes.{capability_line, desired}
+use Rattle.handshake.specs.Judged.{capability_line}
+use Rattle.handshake.specs.Handshakes.{desired}
 use Rattle.handshake.proofs.parts.send_desired.Given as goal
 
 abbrev pub invariant-loop-name : goal.invariant-loop-name

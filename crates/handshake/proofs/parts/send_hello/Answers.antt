@@ -1,8 +1,9 @@
-use Rattle.std.proofs.Common.{ℕ, List, Err, refl, sym, ap, ◌∙◌, arith}
+use Rattle.std.proofs.Common.{ℕ, List, refl, sym, ap, arith}
 use Rattle.host.proofs.Exits.{told_err}
 use Rattle.host.proofs.Peering.{begun, sent_more, sent_stop}
 use Rattle.slices.specs.Names.{name_bytes}
-use Rattle.handshake.specs.Handshakes.{version_line, hello}
+use Rattle.handshake.specs.Judged.{version_line}
+use Rattle.handshake.specs.Handshakes.{hello}
 use Rattle.process.proofs.Lines.{lines_next, lines_last, sent_last, sent_then}
 use Rattle.handshake.proofs.parts.send_hello.Goals as goal
 

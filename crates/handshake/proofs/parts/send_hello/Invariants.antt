@@ -2,7 +2,7 @@ use Rattle.std.proofs.Common.{[], ◌∷◌, ◌++◌, map, drop}
 use Rattle.packetline.specs.Packets.{flush}
 use Rattle.host.specs.Talk.{send_all}
 use Rattle.host.proofs.Peering.{OnTheWay}
-use Rattle.handshake.specs.Handshakes.{version_line}
+use Rattle.handshake.specs.Judged.{version_line}
 use Rattle.handshake.proofs.parts.send_hello.Given as goal
 
 -- the lines of the versions, behind the welcome

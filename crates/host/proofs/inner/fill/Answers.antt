@@ -1,4 +1,4 @@
-use Rattle.std.proofs.Common.{Err, refl, ap, ◌∙◌, arith}
+use Rattle.std.proofs.Common.{refl, arith}
 use Rattle.host.proofs.Exits.{told_err}
 use Rattle.host.proofs.Fills.{came_none, came_more, came_stop, came_all, logs_more, logs_stop, logs_all}
 use Rattle.host.proofs.Logging.{brought_none}

@@ -1,4 +1,4 @@
-use Rattle.std.proofs.Common.{[], Err, refl, ap, ◌∙◌}
+use Rattle.std.proofs.Common.{[], refl, ◌∙◌}
 use Rattle.host.proofs.Exits.{told_err}
 use Rattle.host.specs.Talk.{read_text}
 use Rattle.host.proofs.Peering.{same_peer, same_then, later}

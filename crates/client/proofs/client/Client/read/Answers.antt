@@ -1,4 +1,4 @@
-use Rattle.std.proofs.Common.{Ok, Err, ap, ◌∙◌, arith, rules}
+use Rattle.std.proofs.Common.{Ok, arith, rules}
 use Rattle.host.proofs.Exits.{told_err}
 use Rattle.process.proofs.Laid.{rooms_there}
 use Rattle.client.proofs.Pieces.{back_piece}

@@ -1,4 +1,4 @@
-use Rattle.std.proofs.Common.{Err, ap, ◌∙◌, arith, rules}
+use Rattle.std.proofs.Common.{arith, rules}
 use Rattle.host.proofs.Exits.{told_err}
 use Rattle.process.proofs.Laid.{rooms_there}
 use Rattle.process.proofs.Peering.{back_with}

@@ -1,4 +1,4 @@
-use Rattle.std.proofs.Common.{◌≤◌, Err, sym, ap, ◌∙◌, subst, rules}
+use Rattle.std.proofs.Common.{◌≤◌, sym, ap, subst, rules}
 use Rattle.host.proofs.Exits.{told_err}
 use Rattle.packetline.specs.Packets.{payload_length}
 use Rattle.host.proofs.Wants.{content_answer, marker_answer, content_fault, content_works}

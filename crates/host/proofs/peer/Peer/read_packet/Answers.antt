@@ -1,4 +1,4 @@
-use Rattle.std.proofs.Common.{◌≤◌, [], Ok, Err, sym, ap, ◌∙◌, subst, arith, rules}
+use Rattle.std.proofs.Common.{◌≤◌, [], Ok, sym, ap, ◌∙◌, subst, arith, rules}
 use Rattle.host.proofs.Exits.{told_err}
 use Rattle.packetline.specs.Packets.{payload_length}
 use Rattle.host.proofs.Hearing.{read_none, read_bad, read_plain, read_data, read_cut}

@@ -1,4 +1,3 @@
-use Rattle.std.proofs.Common.{Err, ap, ◌∙◌}
 use Rattle.host.proofs.Exits.{told_err}
 use Rattle.host.proofs.Wants.{text_fault, text_none, text_bad, text_works}
 use Rattle.host.proofs.peer.Peer.read_text.Goals as goal

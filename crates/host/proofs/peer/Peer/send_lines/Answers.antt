@@ -1,4 +1,4 @@
-use Rattle.std.proofs.Common.{[], map, Err, refl, ap, ◌∙◌, arith}
+use Rattle.std.proofs.Common.{[], map, refl, ap, arith}
 use Rattle.std.proofs.lemmas.List.{drop_all}
 use Rattle.host.proofs.Exits.{told_err}
 use Rattle.packetline.specs.Packets.{line_pkt}

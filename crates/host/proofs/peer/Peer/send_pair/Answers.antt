@@ -1,4 +1,4 @@
-use Rattle.std.proofs.Common.{◌∷◌, ◌++◌, Err, refl, ap, ◌∙◌, arith, length-append, rules}
+use Rattle.std.proofs.Common.{◌∷◌, ◌++◌, refl, arith, length-append, rules}
 use Rattle.std.proofs.lemmas.List.{take-append-drop}
 use Rattle.host.proofs.Exits.{told_err}
 use Rattle.packetline.specs.Packets.{line_pkt}

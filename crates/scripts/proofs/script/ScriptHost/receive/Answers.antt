@@ -1,4 +1,4 @@
-use Rattle.std.proofs.Common.{[], ◌++◌, length, take, drop, ap, ◌∙◌, arith}
+use Rattle.std.proofs.Common.{◌++◌, length, take, drop, ap, ◌∙◌, arith}
 use Rattle.std.proofs.lemmas.Grind.{common_steps}
 use Rattle.host.specs.Worlds.{live, with_process}
 use Rattle.scripts.specs.Rows.{pipe}
@@ -18,6 +18,6 @@ returns-clause-goes c =
     received_some w c.args.process (pipe bytes row) c.in-Some.ensures.meaning c.args.area.now _ n _
     (omega arith) (omega arith) (omega (arith, ap length is))
     (c.play.ensures.value
-    ∙ ap (λ ws. with_process w c.args.process (live (record { waiting = ws; ending = row.ending; allowance = row.allowance; snag = row.snag; reply = λ _ _. [] })))
+    ∙ ap (λ ws. with_process w c.args.process (live (record (pipe bytes row) { waiting = ws })))
     (part_rest bytes row.plays.at row.plays.len n (grind (arith, common_steps))))
     (copied waiting c.args.area.now c.copy_from_slice.new.self n c.copy_from_slice.ensures.after ∙ ap (λ l. take n l ++ drop n c.args.area.now) is)

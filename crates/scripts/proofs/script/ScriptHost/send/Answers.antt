@@ -22,5 +22,5 @@ returns-clause-goes c =
     let w = world_of c.args.self.now in
     sent_whole w c.args.process c.args.bytes.now (pipe bytes row) c.in-Some.ensures.meaning (λ _ _. []) _ c.if-len-row.false
     (c.play.ensures.value
-    ∙ ap (λ ws. with_process w c.args.process (live (record { waiting = ws; ending = row.ending; allowance = row.allowance - length c.args.bytes.now; snag = row.snag; reply = λ _ _. [] })))
+    ∙ ap (λ ws. with_process w c.args.process (live (record (pipe bytes row) { waiting = ws; allowance = row.allowance - length c.args.bytes.now })))
     (sym (append-nil (part bytes row.plays))))

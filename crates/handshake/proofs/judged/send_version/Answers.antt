@@ -2,7 +2,7 @@ use Rattle.std.proofs.Common.{ℕ, List, ◌++◌, codes, ap, ◌∙◌, arith}
 use Rattle.std.proofs.lemmas.Slice.{between_to_end}
 use Rattle.packetline.specs.Packets.{line_pkt}
 use Rattle.process.proofs.Lines.{sends_same}
-use Rattle.handshake.proofs.parts.send_version.Goals as goal
+use Rattle.handshake.proofs.judged.send_version.Goals as goal
 
 pub returns : goal.returns
 returns g c =

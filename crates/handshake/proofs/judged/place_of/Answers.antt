@@ -1,4 +1,4 @@
-use Rattle.handshake.proofs.parts.place_of.Goals as goal
+use Rattle.handshake.proofs.judged.place_of.Goals as goal
 use Rattle.handshake.proofs.Places.{place_none}
 
 pub returns-in_default : goal.returns-in_default
