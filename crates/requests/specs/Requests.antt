@@ -147,10 +147,12 @@ pub record RequestLaw (rows room : ℕ) (sent given : List ℕ) (r : Result (Res
 
 -- What is stored
 
+-- what is kept where nothing is refused
 abbrev pub kept_of : Result (Option (List ℕ)) ℕ → Option (List ℕ)
 kept_of (Ok o) = o
 kept_of (Err n) = None
 
+-- the command in a text, where it is kept
 abbrev pub text_kept : ℕ → Result (List ℕ) ℕ → Option (List ℕ)
 text_kept room (Ok t) = kept_of (command_in room (Some t))
 text_kept room (Err n) = None
@@ -162,6 +164,7 @@ command_kept room delimiter = None
 command_kept room response_end = None
 command_kept room (line l) = text_kept room (text_of l)
 
+-- what was kept before, or with more where the reading goes on
 abbrev pub turn_kept : Request → Turn Request (Result (Option Request) ℕ) → (Request → Request) → Request
 turn_kept q (goes q' es) more = more q'
 turn_kept q (stops a) more = q
@@ -171,6 +174,7 @@ abbrev pub meta_kept : ℕ → ℕ → Request → List Pkt → Request
 meta_kept rows room q [] = q
 meta_kept rows room q (p ∷ ps) = turn_kept q (meta_step rows room q p) (λ q'. meta_kept rows room q' ps)
 
+-- a command and the pairs behind it, or nothing
 abbrev pub behind_kept : ℕ → ℕ → List Pkt → Option (List ℕ) → Request
 behind_kept rows room ps None = request [] []
 behind_kept rows room ps (Some c) = meta_kept rows room (request c []) ps
@@ -196,13 +200,17 @@ IsStored rows room (delimiter ∷ ps) q = q ≡ request [] []
 IsStored rows room (response_end ∷ ps) q = q ≡ request [] []
 IsStored rows room (line l ∷ ps) q = (CommandIs l q.command × TakesPairs rows room ps q) ⊎ (((c : List ℕ) → CommandIs l c → room < length c) × (q ≡ request [] []))
 
--- On every outcome, a fault too, rows and text area hold what is stored of the packets that were given, and who reads it there by its two numbers finds
--- it; an answer tells these.
+-- what is stored of what was given
+abbrev pub stored_of : List ℕ → List MetaRow → List ℕ → Request
+stored_of given rows text = stored_in (length rows) (length text) (decode given).packets
+
+-- On every outcome, a fault too, rows and text area hold what is stored of what was given, and show it to who knows its two numbers; an answer tells
+-- these.
 pub record Stores (given : List ℕ) (rows : List MetaRow) (text : List ℕ) (r : Result (Option Asked) RequestFault) (rows' : List MetaRow) (text' : List ℕ) : Type 0 where
-  pub holds : Holds (stored_in (length rows) (length text) (decode given).packets) rows text rows' text'
-  pub law : IsStored (length rows) (length text) (decode given).packets (stored_in (length rows) (length text) (decode given).packets)
-  pub shows : request_at rows' text' (counts_of (stored_in (length rows) (length text) (decode given).packets)) ≡ stored_in (length rows) (length text) (decode given).packets
-  pub counts : (a : Asked) → r ≡ Ok (Some a) → a ≡ counts_of (stored_in (length rows) (length text) (decode given).packets)
+  pub holds : Holds (stored_of given rows text) rows text rows' text'
+  pub law : IsStored (length rows) (length text) (decode given).packets (stored_of given rows text)
+  pub shows : request_at rows' text' (counts_of (stored_of given rows text)) ≡ stored_of given rows text
+  pub counts : (a : Asked) → r ≡ Ok (Some a) → a ≡ counts_of (stored_of given rows text)
 
 -- What is promised of the code
 
@@ -242,7 +250,7 @@ LineKept q space area l at (Ok behind) rows count text =
 LineKept q space area l at (Err e) rows count text =
     (n : ℕ) × (meta_step (length space) (length area) q (line l) ≡ stops (Err n)) × (refused {A = Option Request} e ≡ Ok (Err n)) × Keeping q space area rows count text at
 
--- the same, whatever was stored before
+-- so it is with one line more, whatever was stored before
 abbrev pub StoresLine : ℕ → List MetaRow → ℕ → List ℕ → List ℕ → Result ℕ RequestFault → List MetaRow → ℕ → List ℕ → Type 0
 StoresLine at rows count text l r rows' count' text' =
     (q : Request) (space : List MetaRow) (area : List ℕ) → Keeping q space area rows count text at → LineKept q space area l at r rows' count' text'

@@ -70,7 +70,7 @@ pub record Holds (q : Request) (rows : List MetaRow) (text : List ℕ) (rows' : 
 
 -- What is promised of the parts of the code
 
--- the same while a request is read: how many rows are held, and where the next pair goes
+-- while a request is read: so much of it is stored, so many rows are held, and there goes the next pair
 pub record Keeping (q : Request) (rows : List MetaRow) (text : List ℕ) (rows' : List MetaRow) (count : ℕ) (text' : List ℕ) (at : ℕ) : Type 0 where
   pub holds : Holds q rows text rows' text'
   pub counted : count ≡ length q.pairs
@@ -85,7 +85,7 @@ abbrev pub PairKept : Request → List MetaRow → List ℕ → Pair → ℕ →
 PairKept q space area p at (Some behind) rows count text = (has_space (length space) (length area) q p ≡ true) × Keeping (and_pair q p) space area rows count text behind
 PairKept q space area p at None rows count text = (has_space (length space) (length area) q p ≡ false) × Keeping q space area rows count text at
 
--- the same, whatever was stored before
+-- so it is with one pair more, whatever was stored before
 abbrev pub StoresPair : ℕ → List MetaRow → ℕ → List ℕ → Pair → Option ℕ → List MetaRow → ℕ → List ℕ → Type 0
 StoresPair at rows count text p result rows' count' text' =
     (q : Request) (space : List MetaRow) (area : List ℕ) → Keeping q space area rows count text at → PairKept q space area p at result rows' count' text'

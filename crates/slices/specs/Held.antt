@@ -1,4 +1,4 @@
--- What a push of a row does, where the first `count` of the lent rows are held.
+-- What a push of a row does, where the first `count` of the lent rows are held, and rows laid over others.
 use Rattle.std.specs.Prelude.{◌≡◌, ℕ, ◌+◌, cond, ◌≢◌, List, [], ◌∷◌, ◌++◌, length, take, drop, Ok, Err, Result, nat_lt, slice_index_or, slice_set}
 use Rattle.slices.specs.declared.rows.Full.{Full}
 

@@ -2,8 +2,11 @@
 #![tactic(auto)]
 
 pub mod equal;
+pub mod inner;
 pub mod name;
 pub mod names;
+pub mod padded;
+pub mod padding;
 pub mod part;
 pub mod refusal;
 pub mod rows;

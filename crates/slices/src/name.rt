@@ -1,16 +1,15 @@
-//! A name as a plain value, lawful by its ghost fields.
-ghost use Rattle.std.specs.Prelude.{◌≡◌, ◌≤◌, true, length, take};
+//! A name as a plain value, lawful by its ghost field.
+ghost use Rattle.std.specs.Prelude.{◌≡◌, true};
 ghost use Rattle.slices.specs.Limits.{is_name};
+ghost use Rattle.slices.specs.Padding.{padded_bytes};
 
-/// A name of 1 to 64 visible bytes: the first `len` of `bytes`.
+use crate::padded::Padded;
+
+/// A name of 1 to 64 visible bytes.
 #[derive(Clone, Copy)]
 pub struct Name {
-    // Fixed memory: a name is a plain value, and the library allocates nothing.
-    pub(crate) bytes: [u8; 64],
-    pub(crate) len: usize,
-    ghost room: { length bytes ≡ 64 },
-    ghost fits: { len ≤ 64 },
-    ghost lawful: { is_name (take len bytes) ≡ true },
+    pub(crate) text: Padded<64>,
+    ghost lawful: { is_name (padded_bytes text) ≡ true },
 }
 
 /// The refusal of a text that is no name.

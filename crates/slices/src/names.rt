@@ -1,11 +1,12 @@
 //! How a name is made, read and compared.
-ghost use Rattle.std.specs.Prelude.{◌≡◌, ◌≤◌, true, length, take, is_ok, if◌then◌else◌, Ok, Err, Decides};
+ghost use Rattle.std.specs.Prelude.{◌≡◌, true, is_ok, if◌then◌else◌, Ok, Err, Decides};
 ghost use Rattle.slices.specs.Answers.{told};
 ghost use Rattle.slices.specs.Limits.{is_name, AllVisible, IsName};
 ghost use Rattle.slices.specs.Names.{name_bytes, name_number, same_name};
 ghost use Rattle.std.specs.Cmp.Rules.{comparing};
 ghost use Rattle.std.proofs.Common.{rules};
 
+use crate::inner::padded;
 use crate::name::{Name, OutsideLimits};
 use crate::refusal::Numbered;
 
@@ -26,17 +27,6 @@ fn is_lawful(text: &[u8]) -> bool
     }
 }
 
-/// The text at the start of the room that a name has.
-fn padded(text: &[u8]) -> [u8; 64]
-    requires { length text.now ≤ 64 }
-    ensures { (length result ≡ 64) × (take (length text.now) result ≡ text.now) }
-{
-    let len = text.len();
-    let mut bytes = [0u8; 64];
-    bytes[0..len].copy_from_slice(text);
-    bytes
-}
-
 impl Numbered for OutsideLimits {
     ghost number = { name_number };
 
@@ -55,11 +45,7 @@ impl Name {
         if !is_lawful(text) {
             return Err(OutsideLimits);
         }
-        let bytes = padded(text);
-        Ok(Name {
-            bytes,
-            len: text.len(),
-        })
+        Ok(Name { text: padded(text) })
     }
 
     /// The bytes of the name.
@@ -67,7 +53,7 @@ impl Name {
         ensures value { result.now ≡ name_bytes self.now }
         ensures lawful { is_name result.now ≡ true }
     {
-        &self.bytes[0..self.len]
+        self.text.as_bytes()
     }
 }
 
@@ -77,7 +63,7 @@ impl PartialEq for Name {
     ghost laws = { Prim.search (comparing, rules) };
 
     fn eq(&self, other: &Name) -> bool {
-        self.as_bytes() == other.as_bytes()
+        self.text == other.text
     }
 }
 

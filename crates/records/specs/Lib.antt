@@ -1,0 +1,5 @@
+pub mod Keys
+pub mod Limits
+pub mod Operations
+pub mod Places
+pub mod Records
