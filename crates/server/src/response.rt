@@ -5,7 +5,7 @@ ghost use Rattle.host.specs.Calls.{Checked};
 ghost use Rattle.host.specs.Peers.{Does};
 ghost use Rattle.host.specs.Talk.{sight, send_all};
 ghost use Rattle.server.specs.Refusals.{why, went, HandsBack};
-ghost use Rattle.server.specs.Responses.{sayable, report_packets, report_fault};
+ghost use Rattle.server.specs.Responses.{sayable, report_packets, report_fault, IsTold};
 ghost use Rattle.server.specs.Says.{Says};
 ghost use Rattle.server.specs.Writings.{writing_on};
 
@@ -88,6 +88,7 @@ impl Response {
         report: Report<'_>,
     ) -> Result<Response, Refused<Response, SendError>>
         ensures itself { HandsBack self result }
+        ensures meant { IsTold report.entry }
         ensures goes { Checked (report_fault work.old report.entry) (λ x. Says (report_packets report.entry) (sight (H.log host.old) (H.world host.old)) self.server.process work.old x (sight (H.log host.new) (H.world host.new)) work.new) ((host.new ≡ host.old) × (work.new ≡ work.old)) (told went why result) }
     {
         match say(host, self.server.process, work, report) {
