@@ -2,3 +2,4 @@ pub mod Contents
 pub mod Sent
 pub mod Reports
 pub mod Tells
+pub mod Wholes

@@ -53,12 +53,13 @@ fewer ps ss rest p e same =
 
 law_by : (ps : List Pkt) (v u : Wire) (r : Result (Unit {0}) LineFault) → v.events ≡ [] → Said ps v (ends r u) → SaysLaw ps (bytes_sent u.events) (bytes_given u.events) r
 law_by ps v u (Ok a) none (g, s) =
-    record { nothing_given = g ∙ ap bytes_given none; says = λ e. s ∙ ap (λ es. bytes_sent es ++ packets ps) none; only = λ e. refl }
+    record { nothing_given = g ∙ ap bytes_given none; says = λ e. s ∙ ap (λ es. bytes_sent es ++ packets ps) none; only = λ e. refl; stops = λ f is. let z : ◌≡◌ {A = ℕ} 0 1 = cc in absurd (omega arith) }
 law_by ps v u (Err f) none (g, (ss, (p, (rest, e, s)))) =
     record {
       nothing_given = g ∙ ap bytes_given none;
       says = λ is. let z : ◌≡◌ {A = ℕ} 0 1 = cc in absurd (omega arith);
       only = λ is. absurd (fewer ps ss rest p e (sym (s ∙ ap (λ es. bytes_sent es ++ packets ss) none) ∙ is));
+      stops = λ x is. (ss, (p, (rest, e, s ∙ ap (λ es. bytes_sent es ++ packets ss) none)));
     }
 
 -- packets that are sent have their law

@@ -1,18 +1,20 @@
 //! A request that is being answered.
 ghost use Rattle.std.specs.Prelude.{◌≡◌, true};
 ghost use Rattle.slices.specs.Answers.{told};
-ghost use Rattle.host.specs.Calls.{Checked};
+ghost use Rattle.host.specs.Calls.{Checked, room};
+ghost use Rattle.host.specs.Parts.{Parted};
+ghost use Rattle.process.specs.Given.{WorksBy};
 ghost use Rattle.host.specs.Peers.{Does};
 ghost use Rattle.host.specs.Talk.{sight, send_all};
 ghost use Rattle.server.specs.Refusals.{why, went, HandsBack};
 ghost use Rattle.server.specs.Responses.{sayable, report_packets, report_fault, IsTold};
 ghost use Rattle.server.specs.Says.{Says};
-ghost use Rattle.server.specs.Writings.{writing_on};
+ghost use Rattle.server.specs.Writings.{writing_on, written_whole, unflushed, EndsWriting, WholeLaw};
 
 use crate::refused::Refused;
 use crate::server::Server;
-use crate::writing::Writing;
-use host::call::CallError;
+use crate::writing::{Unflushed, Writing};
+use host::call::{AreaError, CallError};
 use host::fault::LineFault;
 use host::host::Host;
 use host::inner::MAX_LINE_LEN;
@@ -103,6 +105,22 @@ impl Response {
     {
         let Response { server } = self;
         Writing { server }
+    }
+
+    /// A whole writing: begins it, writes bytes and ends it.
+    pub fn write_all<H: Host>(
+        self,
+        host: &mut H,
+        work: &mut [u8],
+        bytes: &[u8],
+    ) -> Result<Response, Unflushed<AreaError>>
+        ensures ends { EndsWriting (writing_on self) result }
+        ensures goes { Checked (room work.old) (λ x. Parted bytes.now × WorksBy (WholeLaw bytes.now result) (written_whole bytes.now) (sight (H.log host.old) (H.world host.old)) self.server.process work.old x (sight (H.log host.new) (H.world host.new)) work.new) ((host.new ≡ host.old) × (work.new ≡ work.old)) (told went (unflushed (λ e. e)) result) }
+    {
+        match self.writing().write(host, work, bytes) {
+            Ok(writing) => Ok(writing.flush(host, work)?),
+            Err(refused) => Err(Unflushed::Open(refused)),
+        }
     }
 
     /// The request is answered; nothing passes.

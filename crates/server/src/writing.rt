@@ -2,12 +2,13 @@
 ghost use Rattle.std.specs.Prelude.{◌≡◌, ◌∷◌, []};
 ghost use Rattle.slices.specs.Answers.{told};
 ghost use Rattle.packetline.specs.Packets.{flush};
+ghost use Rattle.host.specs.declared.call.CallError.TheVariants.{Caller as of_caller};
 ghost use Rattle.host.specs.Calls.{Checked, room};
 ghost use Rattle.host.specs.Parts.{Parted};
 ghost use Rattle.host.specs.Talk.{sight};
 ghost use Rattle.server.specs.Refusals.{why, went, HandsBack};
 ghost use Rattle.server.specs.Says.{Says};
-ghost use Rattle.server.specs.Writings.{written_packets, written_on, unflushed, unflushed_number, EndsWriting};
+ghost use Rattle.server.specs.Writings.{written_packets, written_on, unflushed, unflushed_number, widened, EndsWriting};
 
 use crate::refused::Refused;
 use crate::response::Response;
@@ -23,20 +24,34 @@ pub struct Writing {
     pub(crate) server: Server,
 }
 
-/// Why the flush of a writing was not sent. Where the caller is at fault the writing is as it was; a refused flush ends it.
-pub enum Unflushed {
-    Caller(Refused<Writing, AreaTooShort>),
-    Line(Refused<Response, LineFault>),
+/// Why a writing was not ended as it should be: it is still open, or it ended although its flush was refused.
+pub enum Unflushed<E> {
+    Open(Refused<Writing, E>),
+    Ended(Refused<Response, LineFault>),
 }
 
 // By reference: what is handed back is not let go for its number.
-impl Numbered for &Unflushed {
-    ghost number = { λ e. unflushed_number e.now };
+impl<E: Numbered + Copy> Numbered for &Unflushed<E> {
+    ghost number = { λ e. unflushed_number E.number e.now };
 
     fn refusal_number(self) -> u8 {
         match self {
-            Unflushed::Caller(refused) => refused.refusal_number(),
-            Unflushed::Line(refused) => refused.refusal_number(),
+            Unflushed::Open(refused) => refused.refusal_number(),
+            Unflushed::Ended(refused) => refused.refusal_number(),
+        }
+    }
+}
+
+impl From<Unflushed<AreaTooShort>> for Unflushed<AreaError> {
+    ghost from_gives = { λ e r. r ≡ widened e };
+
+    fn from(unflushed: Unflushed<AreaTooShort>) -> Unflushed<AreaError> {
+        match unflushed {
+            Unflushed::Open(Refused { back, why }) => Unflushed::Open(Refused {
+                back,
+                why: CallError::Caller(why),
+            }),
+            Unflushed::Ended(refused) => Unflushed::Ended(refused),
         }
     }
 }
@@ -59,14 +74,18 @@ impl Writing {
     }
 
     /// Ends the writing by a flush, and gives the request back.
-    pub fn flush<H: Host>(self, host: &mut H, work: &mut [u8]) -> Result<Response, Unflushed>
+    pub fn flush<H: Host>(
+        self,
+        host: &mut H,
+        work: &mut [u8],
+    ) -> Result<Response, Unflushed<AreaTooShort>>
         ensures ends { EndsWriting self result }
-        ensures goes { Checked (room work.old) (λ x. Says (flush ∷ []) (sight (H.log host.old) (H.world host.old)) self.server.process work.old x (sight (H.log host.new) (H.world host.new)) work.new) ((host.new ≡ host.old) × (work.new ≡ work.old)) (told went unflushed result) }
+        ensures goes { Checked (room work.old) (λ x. Says (flush ∷ []) (sight (H.log host.old) (H.world host.old)) self.server.process work.old x (sight (H.log host.new) (H.world host.new)) work.new) ((host.new ≡ host.old) × (work.new ≡ work.old)) (told went (unflushed of_caller) result) }
     {
         match send_flush(host, self.server.process, work) {
             Ok(()) => Ok(self.ended()),
-            Err(CallError::Caller(why)) => Err(Unflushed::Caller(Refused { back: self, why })),
-            Err(CallError::Line(why)) => Err(Unflushed::Line(Refused {
+            Err(CallError::Caller(why)) => Err(Unflushed::Open(Refused { back: self, why })),
+            Err(CallError::Line(why)) => Err(Unflushed::Ended(Refused {
                 back: self.ended(),
                 why,
             })),
