@@ -1,6 +1,6 @@
 -- One read of a request's content.
 use Rattle.std.proofs.Common.{◌≡◌, ℕ, ◌≤◌, length, List, [], ◌∷◌, Some, None, Ok, Err, Option, Result, sym, ap, ◌∙◌, subst, arith}
-use Rattle.packetline.specs.Packets.{Pkt, flush, line, Decoded, packets, flushes_of}
+use Rattle.packetline.specs.Packets.{flush, line, Decoded, packets, flushes_of}
 use Rattle.host.specs.declared.fault.LineFault.{LineFault}
 use Rattle.host.specs.declared.peer.Peer.{Peer}
 use Rattle.host.specs.Worlds.{World}
@@ -9,8 +9,7 @@ use Rattle.host.specs.Peers.{seen, Does}
 use Rattle.std.proofs.lemmas.Bool.Decides.{nat_tests}
 use Rattle.host.specs.Calls.{room}
 use Rattle.host.specs.Talk.{bytes_sent, bytes_given, Areas, read_content, shown_part, Sight, sight, Talks}
-use Rattle.process.specs.Given.{ReadsAs, TalksBy, WorksBy}
-use Rattle.process.specs.Peers.{DoesBy}
+use Rattle.process.specs.Given.{TalksBy, WorksBy}
 use Rattle.process.proofs.Peering.{back_by}
 use Rattle.process.proofs.Passes.{Content, NoContent, only_content_passes, Told, told_by_talk}
 use Rattle.process.proofs.Tellings.{reads_same}

@@ -1,5 +1,5 @@
 -- A status that is said.
-use Rattle.std.proofs.Common.{◌≡◌, ℕ, ◌≤◌, true, List, [], ◌∷◌, ◌++◌, length, Ok, Err, None, codes, Bor, Result, sym, refl, ap, ◌∙◌, subst, arith}
+use Rattle.std.proofs.Common.{◌≡◌, ℕ, ◌≤◌, true, List, [], ◌∷◌, ◌++◌, length, Ok, Err, None, codes, Bor, Result, sym, refl, ap, subst, arith}
 use Rattle.std.proofs.lemmas.Bool.Decides.{nat_tests}
 use Rattle.packetline.specs.Packets.{flush, line_pkt}
 use Rattle.host.specs.declared.fault.LineFault.{LineFault}

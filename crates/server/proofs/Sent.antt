@@ -11,7 +11,7 @@ use Rattle.host.specs.Acts.{Log, refusal_of, sent_to}
 use Rattle.host.specs.Calls.{Checked}
 use Rattle.host.specs.Talk.{took, bytes_sent, bytes_given, Areas, Wire, wire, Got, got, lost, then, ends, sent_by, send, send_all, Sight, sight, Talks, Works}
 use Rattle.host.proofs.Talking.{talk_none, talk_then, talk_stop}
-use Rattle.process.specs.Given.{TalksBy, WorksBy}
+use Rattle.process.specs.Given.{TalksBy}
 use Rattle.host.specs.Peers.{seen, Does}
 use Rattle.process.proofs.Peering.{back_by}
 use Rattle.process.proofs.Passes.{packets_append}

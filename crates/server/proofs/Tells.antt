@@ -1,10 +1,10 @@
 -- What a client reads of a status that was said.
-use Rattle.std.proofs.Common.{◌≡◌, ℕ, ◌+◌, ◌≤◌, true, ◌&&◌, List, [], ◌∷◌, ◌++◌, map, length, codes, IsUtf8, sym, refl, ap, ◌∙◌, subst, arith, append-nil, length-append}
+use Rattle.std.proofs.Common.{◌≡◌, ℕ, true, ◌&&◌, List, [], ◌∷◌, ◌++◌, codes, IsUtf8, sym, refl, ap, ◌∙◌, subst, arith, append-nil, length-append}
 use Rattle.std.proofs.lemmas.Bool.Decides.{nat_tests}
 use Rattle.std.specs.Str.{chars}
 use Rattle.std.proofs.Math.Utf8.{encode, encodes}
-use Rattle.std.proofs.lemmas.Str.{chars-append, chars-encodes, IsUtf8-append}
-use Rattle.packetline.specs.Packets.{Pkt, flush, line, line_pkt, Decoded, decode, packets, all_sendable}
+use Rattle.std.proofs.lemmas.Str.{chars-append, IsUtf8-append}
+use Rattle.packetline.specs.Packets.{Pkt, Decoded, decode, packets, all_sendable}
 use Rattle.packetline.specs.Lines.{kind_of, after_prefix, status}
 use Rattle.packetline.specs.Text.{utf8, keep, trimmed, trim_end}
 use Rattle.packetline.proofs.Decoding.{decodes_sent}
@@ -15,7 +15,7 @@ use Rattle.process.specs.Statuses.{status_in, told_by, status_of, Tells}
 use Rattle.process.proofs.Passes.{decode_empty}
 use Rattle.server.specs.declared.response.Report.{Report}
 use Rattle.server.specs.declared.response.Report.TheVariants.{Previous, Named}
-use Rattle.server.specs.Responses.{sayable, report_packets, Means, IsTold}
+use Rattle.server.specs.Responses.{sayable, report_packets, IsTold}
 
 -- the prefix of a status line, in characters
 abbrev prefix : List ℕ

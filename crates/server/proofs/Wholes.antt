@@ -1,6 +1,6 @@
 -- A whole writing: its packets, and then its flush.
-use Rattle.std.proofs.Common.{◌≡◌, ℕ, List, [], ◌∷◌, ◌++◌, length, cond, nat_le, Some, None, Ok, Err, Option, Result, sym, refl, ap, ◌∙◌, subst, arith, append_assoc, append-nil, length-append}
-use Rattle.packetline.specs.Packets.{Pkt, flush, packet, packets}
+use Rattle.std.proofs.Common.{◌≡◌, ℕ, List, [], ◌∷◌, ◌++◌, length, cond, nat_le, Some, None, Ok, Err, Option, Result, sym, refl, ap, ◌∙◌, arith, append_assoc, append-nil, length-append}
+use Rattle.packetline.specs.Packets.{flush, packets}
 use Rattle.host.specs.declared.call.AreaTooShort.{AreaTooShort}
 use Rattle.host.specs.declared.call.CallError.{CallError}
 use Rattle.host.specs.declared.call.CallError.TheVariants.{Caller, Line}

@@ -1,4 +1,4 @@
-use Rattle.std.proofs.Common.{◌∙◌, rules}
+use Rattle.std.proofs.Common.{◌∙◌}
 use Rattle.host.proofs.Exits.{told_err}
 use Rattle.server.proofs.Wholes.{whole_done, open_checked, ended_checked}
 use Rattle.server.proofs.response.Response.write_all.Goals as goal
