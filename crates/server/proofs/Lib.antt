@@ -1,0 +1,5 @@
+pub mod Contents
+pub mod Sent
+pub mod Reports
+pub mod Tells
+pub mod Wholes
