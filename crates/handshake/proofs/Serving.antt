@@ -7,7 +7,7 @@ use Rattle.host.specs.declared.fault.LineFault.{LineFault}
 use Rattle.host.specs.declared.peer.Peer.{Peer}
 use Rattle.host.specs.Worlds.{World}
 use Rattle.host.specs.Acts.{Log}
-use Rattle.host.specs.Talk.{bytes_sent, bytes_given, Areas, Wire, Got, got, then, Sight, Talks}
+use Rattle.host.specs.Talk.{bytes_sent, bytes_given}
 use Rattle.host.specs.Peers.{Does}
 use Rattle.host.proofs.Peering.{does_got}
 use Rattle.process.specs.Given.{ReadsAs}

@@ -1,7 +1,7 @@
-use Rattle.std.proofs.Common.{◌≡◌, ℕ, List, length, take, Some, None, Ok, Err, Option, refl, sym, ap, ◌∙◌, subst, rules}
+use Rattle.std.proofs.Common.{◌≡◌, take, Some, None, Ok, Err, refl, sym, ap, ◌∙◌, rules}
 use Rattle.std.specs.Result.{result_ok}
 use Rattle.host.proofs.Exits.{told_err}
-use Rattle.host.proofs.Peering.{does_then, does_stop, does_is, does_got}
+use Rattle.host.proofs.Peering.{does_then, does_stop, does_got}
 use Rattle.slices.specs.Names.{name_bytes}
 use Rattle.handshake.specs.Judged.{heard}
 use Rattle.handshake.specs.Servers.{objection_number, hailed, shared_then, shares_then, meets, met}
