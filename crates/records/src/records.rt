@@ -3,8 +3,8 @@ ghost use Rattle.std.specs.Prelude.{◌≡◌, ◌↔◌, [], length, Some, None
 ghost use Rattle.std.specs.List.{list_any};
 ghost use Rattle.std.specs.Option.{option_map};
 ghost use Rattle.slices.specs.Answers.{told};
-ghost use Rattle.records.specs.Places.{Distinct, place_of};
-ghost use Rattle.records.specs.Records.{held, lookup, reading_by, is_reading, without, changed, inserted, with_reading, with_capabilities, IsRecordOf, ChangesOnly};
+ghost use Rattle.records.specs.Places.{Distinct, place_of, IsPlaceOf};
+ghost use Rattle.records.specs.Records.{held, lookup, reading_by, is_reading, without, changed, inserted, with_reading, with_capabilities, IsRecordOf, IsReadingBy, ChangesOnly};
 
 use crate::key::Key;
 use crate::operation::Operation;
@@ -35,7 +35,8 @@ impl Records {
 
     /// The place of the record with this key.
     pub fn find(&self, key: &Key) -> Option<usize>
-        ensures { result ≡ place_of self.now.places key.now }
+        ensures value { result ≡ place_of self.now.places key.now }
+        ensures law { IsPlaceOf self.now.places key.now result }
     {
         first(&self.places, &Some(Record::probe(*key)))
     }
@@ -47,11 +48,33 @@ impl Records {
         *self.places.get(place)?
     }
 
+    /// The record with this key.
+    pub fn record_of(&self, key: &Key) -> Option<Record>
+        ensures value { result ≡ lookup self.now.places key.now }
+        ensures law { IsRecordOf self.now.places key.now result }
+    {
+        self.get(self.find(key)?)
+    }
+
     /// How many records there are.
     pub fn len(&self) -> usize
         ensures { result ≡ length (held self.now.places) }
     {
         self.places.iter().copied().flatten().count()
+    }
+
+    /// Whether there is none.
+    pub fn is_empty(&self) -> bool
+        ensures { IsTrue result ↔ (held self.now.places ≡ []) }
+    {
+        self.len() == 0
+    }
+
+    /// Whether there is no place for another one.
+    pub fn is_full(&self) -> bool
+        ensures { IsTrue result ↔ (length (held self.now.places) ≡ 8) }
+    {
+        self.len() == MAX_RECORDS
     }
 
     /// Whether a result is being read.
@@ -61,10 +84,18 @@ impl Records {
         self.places.iter().copied().flatten().any(|r| r.reading.is_some())
     }
 
-    /// The first reading record with this process number.
-    pub fn by_process(&self, process: usize) -> Option<Record>
+    // A function of its own: the law of `by_process` follows from the chain's value.
+    fn first_reading(&self, process: usize) -> Option<Record>
         ensures { result ≡ reading_by self.now.places process }
     {
         self.places.iter().copied().flatten().find(|r| r.process == process && r.reading.is_some())
+    }
+
+    /// The first reading record with this process number.
+    pub fn by_process(&self, process: usize) -> Option<Record>
+        ensures value { result ≡ reading_by self.now.places process }
+        ensures law { IsReadingBy self.now.places process result }
+    {
+        self.first_reading(process)
     }
 }
