@@ -1,6 +1,6 @@
 -- Which place, and which record, a key finds.
 use Rattle.std.specs.Prelude.{◌==◌}
-use Rattle.std.proofs.Common.{◌≡◌, ◌≢◌, ℕ, zero, suc, ◌<◌, ◌≤◌, ◌+◌, Bool, true, false, cond, List, [], ◌∷◌, length, get_or, Some, None, Option, sym, subst, refl, ap, ◌∙◌, ⊎_elim, arith, IsSome, IsNone, ◌&&◌}
+use Rattle.std.proofs.Common.{◌≡◌, ◌≢◌, ℕ, zero, suc, ◌<◌, Bool, true, false, cond, List, [], ◌∷◌, length, get_or, Some, None, Option, sym, subst, refl, ap, ◌∙◌, ⊎_elim, arith, IsSome, IsNone, ◌&&◌}
 use Rattle.std.specs.List.{All, Contains, find}
 use Rattle.std.proofs.lemmas.Bool.{both_ways, cases_Bool, cases_order, cases_lt, cond-true, cond-false}
 use Rattle.std.proofs.lemmas.Grind.{common_steps}
@@ -63,8 +63,7 @@ place_is places distinct k None e i =
     let first : IsFirst (holds_key k) places None = first_is (holds_key k) places None e in
     (λ h. cc, λ (r, e, same). absurd (both_ways _ (first i None (inside places i r e)) (holds k _ r e same)))
 place_is places distinct k (Some j) e i =
-    let first : IsFirst (holds_key k) places (Some j) = first_is (holds_key k) places (Some j) e in
-    (
+    let first : IsFirst (holds_key k) places (Some j) = first_is (holds_key k) places (Some j) e in (
       λ h. let same : j ≡ i = cc in subst (λ n. HasAt places n k) same (holder k (at places j) (first.1 None)),
       λ (r, e, same). ap Some (same_place places distinct k j i (first.1 None) (holds k _ r e same)),
     )
@@ -115,7 +114,7 @@ pub record_is : (places : List Place) → Distinct places → (k : Key) (answer 
 record_is places distinct k answer e r = (
   λ h. let f = find_has (λ r. same_key r.key k) (held places) r (sym e ∙ h) in (f.0, keys_agree r.key k f.1),
   λ (c, same). let h = held_at places r c.0 c.1 c.2 in
-    e ∙ lookup_first k places h.0 (holds k _ r h.1 same) (λ j l. elsewhere places distinct k h.0 j (holds k _ r h.1 same) (omega arith)) ∙ h.1,
+      e ∙ lookup_first k places h.0 (holds k _ r h.1 same) (λ j l. elsewhere places distinct k h.0 j (holds k _ r h.1 same) (omega arith)) ∙ h.1,
 )
 
 -- what a search finds none of fails everywhere

@@ -1,5 +1,5 @@
 -- The places of a table: each is free or holds a record, and no two records have one key.
-use Rattle.std.specs.Prelude.{◌≡◌, ℕ, ◌<◌, Bool, true, false, List, Some, None, Option, is_none, slice_index_or, ◌↔◌}
+use Rattle.std.specs.Prelude.{◌≡◌, ℕ, ◌<◌, Bool, false, List, Some, None, Option, is_none, slice_index_or, ◌↔◌}
 use Rattle.std.specs.Option.{option_or}
 use Rattle.std.specs.Ordering.{on}
 use Rattle.slices.specs.First.{first_from}
