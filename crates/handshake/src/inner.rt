@@ -1,4 +1,4 @@
-//! What this crate lends the next: a handshake with a peer, for a caller who has judged how many names there are.
+//! What this crate lends the next: a handshake with a peer, for a caller who has judged how many names there are; and how a server judges each line that it hears, for who reads them otherwise.
 ghost use Rattle.std.specs.Prelude.{◌≤◌, length};
 ghost use Rattle.slices.specs.Names.{name_bytes};
 ghost use Rattle.process.specs.Peers.{DoesBy};
@@ -6,6 +6,7 @@ ghost use Rattle.handshake.specs.Judged.{heard};
 ghost use Rattle.handshake.specs.Handshakes.{handshake as handshaken, protocol_number, shaken_by, HandshakeLaw};
 
 use crate::agreement::Agreement;
+pub use crate::hearing::{judge_hail, keep_version, with_line};
 use crate::judged::read_judged;
 use crate::parts::{judge_end, judge_version, judge_welcome, read_names, send_desired, send_hello};
 use crate::protocol::{Protocol, Refusal};
