@@ -1,5 +1,5 @@
 -- A whole writing: its packets, and then its flush.
-use Rattle.std.proofs.Common.{◌≡◌, ℕ, List, [], ◌∷◌, ◌++◌, length, cond, nat_le, Some, None, Ok, Err, Option, Result, sym, refl, ap, ◌∙◌, arith, append_assoc, append-nil, length-append}
+use Rattle.std.proofs.Common.{◌≡◌, ℕ, List, [], ◌∷◌, ◌++◌, length, cond, nat_le, Some, None, Ok, Err, Option, Result, sym, refl, ap, ◌∙◌, arith, append-nil, length-append}
 use Rattle.packetline.specs.Packets.{flush, packets}
 use Rattle.host.specs.declared.call.AreaTooShort.{AreaTooShort}
 use Rattle.host.specs.declared.call.CallError.{CallError}
@@ -7,7 +7,7 @@ use Rattle.host.specs.declared.call.CallError.TheVariants.{Caller, Line}
 use Rattle.host.specs.Calls.{Checked, room}
 use Rattle.host.specs.Refusals.{too_short}
 use Rattle.host.specs.declared.fault.LineFault.{LineFault}
-use Rattle.host.specs.Talk.{Event, took, refused, gave, noted, bytes_sent, bytes_given, Sight}
+use Rattle.host.specs.Talk.{bytes_sent, bytes_given, Sight}
 use Rattle.host.proofs.Talking.{talk_then, talk_stop}
 use Rattle.process.specs.Given.{WorksBy}
 use Rattle.process.proofs.Passes.{packets_append}
