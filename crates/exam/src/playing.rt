@@ -1,4 +1,4 @@
-//! A sheet played over the script host.
+//! A sheet played over a host.
 use crate::cast::{Played, Sheet};
 use crate::listing::{Described, Listing};
 use crate::refusals::{Answer, Stopped, refused};
@@ -11,7 +11,7 @@ use host::sending::{send_flush, send_line};
 use recording::show::Escaped;
 use scripts::script::Script;
 
-impl Stage<'_> {
+impl<H: Host> Stage<H> {
     /// Starts a command, and notes that its process is open.
     fn start(&mut self, command: &[u8]) -> Answer {
         let number = self.host.start(command).map_err(refused)?;
@@ -92,7 +92,11 @@ fn print_answer(rt: &HostRuntime, answer: Answer) -> anyhow::Result<()> {
 }
 
 /// Plays one line of a sheet: under a client's call stand the packets that passed, and under any call its answer.
-fn play_line(rt: &HostRuntime, stage: &mut Stage<'_>, played: Played<'_>) -> anyhow::Result<()> {
+fn play_line<H: Host>(
+    rt: &HostRuntime,
+    stage: &mut Stage<H>,
+    played: Played<'_>,
+) -> anyhow::Result<()> {
     print_line(rt, played.line)?;
     match played.call {
         Call::With(pair) => {
@@ -126,6 +130,19 @@ fn print_open(rt: &HostRuntime, started: &[Option<Listing>]) -> anyhow::Result<(
     Ok(())
 }
 
+/// Plays lines over a host, and tells at the end which processes are open.
+fn play_over<H: Host + Drop>(
+    rt: &HostRuntime,
+    host: H,
+    played: Vec<Played<'_>>,
+) -> anyhow::Result<()> {
+    let mut stage = Stage::new(rt.alloc(), host)?;
+    for line in played {
+        play_line(rt, &mut stage, line)?;
+    }
+    print_open(rt, &stage.started)
+}
+
 /// Reads a sheet, then plays it. A bad line is told before anything is played.
 pub(crate) fn play(rt: &HostRuntime, lines: &[&[u8]]) -> anyhow::Result<()> {
     let mut sheet = Sheet::new(rt.alloc());
@@ -140,9 +157,5 @@ pub(crate) fn play(rt: &HostRuntime, lines: &[&[u8]]) -> anyhow::Result<()> {
     let Ok(script) = Script::new(&cast.bytes, &cast.rows) else {
         bail!("a sheet has at most 16 processes");
     };
-    let mut stage = Stage::new(rt.alloc(), script)?;
-    for line in played {
-        play_line(rt, &mut stage, line)?;
-    }
-    print_open(rt, &stage.started)
+    play_over(rt, script, played)
 }
