@@ -37,6 +37,9 @@ same_pipe q r e = cc
 not_gone : (q : Pipe) → ◌≡◌ {A = Process} (live q) gone → ⊥
 not_gone q e = let z : ◌≡◌ {A = ℕ} 0 1 = cc in omega arith
 
+abbrev after_move : List ℕ → List Name → Stage → ℕ → List ℕ → Move → Process
+after_move prefix names x n bytes m = live (pipe_at prefix names m.to (packets m.says) (n - length bytes))
+
 module _ (prefix : List ℕ) (names : List Name) where
   -- an open process, by what its seat holds
   seat_now : (s : Seat) (x : Stage) (ws : List ℕ) (n : ℕ) → s.is_open ≡ true → stage_of s.server ≡ x → waiting_in s.answer ≡ ws → s.allowance ≡ n → process_of prefix names s ≡ live (pipe_at prefix names x ws n)
@@ -45,9 +48,6 @@ module _ (prefix : List ℕ) (names : List Name) where
       ∙ ap (λ y. live (pipe_at prefix names y (waiting_in s.answer) s.allowance)) e
       ∙ ap (λ l. live (pipe_at prefix names x l s.allowance)) f
       ∙ ap (λ m. live (pipe_at prefix names x ws m)) g
-
-  abbrev after_move : Stage → ℕ → List ℕ → Move → Process
-  after_move x n bytes m = live (pipe_at prefix names m.to (packets m.says) (n - length bytes))
 
   module _ (seats : List Seat) (count : ℕ) (long : length seats ≡ 16) (few : count ≤ 16) where
     abbrev w : World
@@ -153,13 +153,13 @@ module _ (prefix : List ℕ) (names : List Name) where
         sends = sent_whole w p bytes q here later _ within becomes
 
         pub sends_on :
-            (x : Stage) (n : ℕ) (k : Pkt) → process w p ≡ live (pipe_at prefix names x [] n) → front bytes ≡ whole k bytes []
-            → process (mirror_world prefix names seats' count) p ≡ live (pipe_at prefix names (hears prefix names x k).to (packets (hears prefix names x k).says) (n - length bytes))
-        sends_on x n k at_x one =
-            let same : q ≡ pipe_at prefix names x [] n = same_pipe q (pipe_at prefix names x [] n) (sym here ∙ at_x) in
+            (called : List ℕ) (skills : List Name) (x : Stage) (n : ℕ) (k : Pkt) → process w p ≡ live (pipe_at called skills x [] n) → front bytes ≡ whole k bytes []
+            → process (mirror_world prefix names seats' count) p ≡ live (pipe_at called skills (hears called skills x k).to (packets (hears called skills x k).says) (n - length bytes))
+        sends_on called skills x n k at_x one =
+            let same : q ≡ pipe_at called skills x [] n = same_pipe q (pipe_at called skills x [] n) (sym here ∙ at_x) in
             ap (λ v. process v p) becomes ∙ with_there p (live (pipe_after q bytes later)) inside
             ∙ ap (λ r. live (pipe_after r bytes later)) same
-            ∙ ap (λ f. after_move x n bytes (taken (only f) (hears prefix names x))) one
+            ∙ ap (λ f. after_move called skills x n bytes (taken (only f) (hears called skills x))) one
 
       -- Ending
       pub ends : (seats' : List Seat) → AtSeat (λ _ x. x.is_open ≡ false) seats p seats' → Ended w p (mirror_world prefix names seats' count)

@@ -1,6 +1,7 @@
 -- What a mirror means.
-use Rattle.std.specs.Prelude.{◌≡◌, ℕ, ◌-◌, ◌<◌, ◌^◌, Bool, true, false, cond, List, [], map, length, take, Ok, Err, Result, slice_index_or}
+use Rattle.std.specs.Prelude.{◌≡◌, ℕ, ◌-◌, ◌<◌, ◌^◌, Bool, true, false, cond, List, [], ◌∷◌, map, length, take, Ok, Err, codes, Result, slice_index_or}
 use Rattle.slices.specs.declared.name.Name.{Name}
+use Rattle.slices.specs.Names.{name_bytes}
 use Rattle.packetline.specs.Packets.{Pkt, whole, front, packets}
 use Rattle.host.specs.declared.fault.Fault.{Fault}
 use Rattle.host.specs.declared.fault.NotStarted.{NotStarted}
@@ -29,23 +30,27 @@ world_of m = mirror_world (prefix_of m.house) m.house.names m.seats m.count
 abbrev pub unstarted : World
 unstarted = record { procs = []; startable = λ _. true }
 
+-- the names of what the servers can do
+abbrev pub Skills : List Name → Type 0
+Skills names = map name_bytes names ≡ codes "clean" ∷ codes "smudge" ∷ []
+
 -- an open process of a mirror, by where its server stands, what waits, and how many bytes it takes
-abbrev pub StandsAt : Mirror → ℕ → Stage → List ℕ → ℕ → Type 0
-StandsAt m p s waiting allowance = process (world_of m) p ≡ live (pipe_at (prefix_of m.house) m.house.names s waiting allowance)
+abbrev pub StandsAt : World → ℕ → List Name → Stage → List ℕ → ℕ → Type 0
+StandsAt w p names s waiting allowance = process w p ≡ live (pipe_at (codes "git-filter") names s waiting allowance)
 
 -- a process that is started takes 2^40 bytes, and its server waits for the client's welcome
-abbrev pub StartsServer : Result ℕ NotStarted → Mirror → Type 0
-StartsServer (Ok n) m' = StandsAt m' n hailing [] (2 ^ 40)
-StartsServer (Err e) m' = Unit {0}
+abbrev pub StartsServer : Result ℕ NotStarted → World → Type 0
+StartsServer (Ok n) w' = (names : List Name) × Skills names × StandsAt w' n names hailing [] (2 ^ 40)
+StartsServer (Err e) w' = Unit {0}
 
 -- Where a packet is sent to a process at which nothing waits, what waits then is what its server's talk says when it hears the packet, and its server
 -- stands where that talk goes on.
-abbrev pub Mirrors : Mirror → ℕ → List ℕ → Result (Unit {0}) Fault → Mirror → Type 0
-Mirrors m p bytes (Ok _) m' =
-    (s : Stage) (allowance : ℕ) (x : Pkt) → StandsAt m p s [] allowance → front bytes ≡ whole x bytes []
-    → StandsAt m' p (hears (prefix_of m.house) m.house.names s x).to (packets (hears (prefix_of m.house) m.house.names s x).says) (allowance - length bytes)
-    × GoesOn (prefix_of m.house) m.house.names s x
-Mirrors m p bytes (Err e) m' = Unit {0}
+abbrev pub Mirrors : World → ℕ → List ℕ → Result (Unit {0}) Fault → World → Type 0
+Mirrors w p bytes (Ok _) w' =
+    (names : List Name) (s : Stage) (allowance : ℕ) (x : Pkt) → StandsAt w p names s [] allowance → front bytes ≡ whole x bytes []
+    → StandsAt w' p names (hears (codes "git-filter") names s x).to (packets (hears (codes "git-filter") names s x).says) (allowance - length bytes)
+    × GoesOn (codes "git-filter") names s x
+Mirrors w p bytes (Err e) w' = Unit {0}
 
 -- whether a process is open, by its seat
 abbrev pub Opened : Mirror → ℕ → Bool → Type 0

@@ -52,8 +52,7 @@ impl Host for Mirror {
     fn start(&mut self, command: &[u8]) -> Result<usize, NotStarted>
         ensures goes { Started 16 (world_of self.old) command.now result (world_of self.new) }
         ensures logs { Grows None (starting command.now result ∷ []) None }
-        ensures keeps { self.new.house ≡ self.old.house }
-        ensures stands { StartsServer result self.new }
+        ensures stands { StartsServer result (world_of self.new) }
     {
         let number = self.count;
         if number >= 16 {
@@ -67,7 +66,6 @@ impl Host for Mirror {
     fn receive(&mut self, process: usize, area: &mut [u8]) -> Result<usize, Fault>
         ensures goes { Received (world_of self.old) process area.old result (world_of self.new) area.new }
         ensures logs { Grows None (taking process (came result area.new) ∷ []) None }
-        ensures keeps { self.new.house ≡ self.old.house }
     {
         if area.is_empty() {
             return Ok(0);
@@ -84,8 +82,7 @@ impl Host for Mirror {
     fn send(&mut self, process: usize, bytes: &[u8]) -> Result<(), Fault>
         ensures goes { Sent (world_of self.old) process bytes.now result (world_of self.new) }
         ensures logs { Grows None (sending process bytes.now result ∷ []) None }
-        ensures keeps { self.new.house ≡ self.old.house }
-        ensures mirrors { Mirrors self.old process bytes.now result self.new }
+        ensures mirrors { Mirrors (world_of self.old) process bytes.now result (world_of self.new) }
     {
         if !self.is_open(process) {
             return Err(Fault::Broken);
@@ -101,7 +98,6 @@ impl Host for Mirror {
     fn end(&mut self, process: usize, _how: How)
         ensures goes { Ended (world_of self.old) process (world_of self.new) }
         ensures logs { Grows None (ending process _how ∷ []) None }
-        ensures keeps { self.new.house ≡ self.old.house }
     {
         if self.is_open(process) {
             end_at(&mut self.seats, process);

@@ -1,4 +1,4 @@
-use Rattle.std.proofs.Common.{arith}
+use Rattle.std.proofs.Common.{codes, arith}
 use Rattle.mirror.specs.Memory.{prefix_of}
 use Rattle.mirror.specs.Worlds.{world_of}
 use Rattle.host.proofs.Hosts.{sent_gone}
@@ -30,7 +30,7 @@ returns-clause-mirrors c =
     let m = c.args.self.now in
     let s = c.index-self-process.result in
     let o = open_there m c.args.process c.is_open.result c.is_open.ensures c.if-not-is_open.false in
-    λ x n k at one. (
-      sends_on (prefix_of m.house) m.house.names m.seats m.count (omega arith) (omega arith) c.args.process o.0 s (o.1 s) c.args.bytes.now c.if-bytes-self.false c.send_at.new.seats c.send_at.ensures x n k at one,
-      goes_on (prefix_of m.house) m.house.names x k,
+    λ names x n k at one. (
+      sends_on (prefix_of m.house) m.house.names m.seats m.count (omega arith) (omega arith) c.args.process o.0 s (o.1 s) c.args.bytes.now c.if-bytes-self.false c.send_at.new.seats c.send_at.ensures (codes "git-filter") names x n k at one,
+      goes_on (codes "git-filter") names x k,
     )
