@@ -23,7 +23,7 @@ use slices::name::Name;
 use slices::rows::Rows;
 
 /// Judges whether a line is the client's welcome: the prefix and `-client`.
-pub(crate) fn judge_hail(line: Option<&[u8]>, prefix: &Name) -> Result<(), Objection>
+pub fn judge_hail(line: Option<&[u8]>, prefix: &Name) -> Result<(), Objection>
     ensures { told (λ u. u) objection_number result ≡ hailed (name_bytes prefix.now) (option_map (λ x. x.now) line.entry) }
 {
     if !greets(line, prefix, b"-client") {
@@ -33,7 +33,7 @@ pub(crate) fn judge_hail(line: Option<&[u8]>, prefix: &Name) -> Result<(), Objec
 }
 
 /// Holds the version that a line offers in a row.
-fn keep_version(rows: &mut Rows<'_, u64>, line: &[u8]) -> Result<(), Objection>
+pub fn keep_version(rows: &mut Rows<'_, u64>, line: &[u8]) -> Result<(), Objection>
     ensures lender { rows.new.rows.ghost_name ≡ rows.old.rows.ghost_name }
     ensures keeps { KeepsVersion (version_in (Some line.now)) rows.old.rows.now rows.old.count result rows.new.rows.now rows.new.count }
 {
@@ -70,7 +70,7 @@ pub(crate) fn send_answers<H: Host>(
 }
 
 /// The names that are shared, with the one that a line names.
-fn with_line(shared: Shared, line: &[u8], names: &[Name]) -> Shared
+pub fn with_line(shared: Shared, line: &[u8], names: &[Name]) -> Shared
     requires few { length names.now ≤ 32 }
     requires inside { AllWithin (length names.now) (places_of shared) }
     ensures value { places_of result ≡ with_shared names.now (places_of shared) (capability_in (kind_of line.now)) }

@@ -1,4 +1,4 @@
-//! What this crate lends the next: a handshake with a peer, of either end, for a caller who has judged how many names there are.
+//! What this crate lends the next: a handshake with a peer, of either end, for a caller who has judged how many names there are; and how a server judges each line that it hears, for who reads them otherwise.
 ghost use Rattle.std.specs.Prelude.{◌≤◌, length};
 ghost use Rattle.slices.specs.Names.{name_bytes};
 ghost use Rattle.process.specs.Peers.{DoesBy};
@@ -8,7 +8,8 @@ ghost use Rattle.handshake.specs.Servers.{served, objection_number, HoldsLater, 
 ghost use Rattle.handshake.specs.Sharing.{met_by};
 
 use crate::agreement::{Accord, Agreement};
-use crate::hearing::{judge_hail, read_shared, read_versions, send_answers, send_shares};
+pub use crate::hearing::{judge_hail, keep_version, with_line};
+use crate::hearing::{read_shared, read_versions, send_answers, send_shares};
 use crate::judged::read_judged;
 use crate::parts::{judge_end, judge_version, judge_welcome, read_names, send_desired, send_hello};
 use crate::protocol::{Objection, Protocol, Refusal};

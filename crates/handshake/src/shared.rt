@@ -25,7 +25,7 @@ impl Shared {
     ghost use Rattle.handshake.specs.Sharing.{places_of};
 
     /// No name.
-    pub(crate) fn none() -> Shared
+    pub fn none() -> Shared
         ensures { places_of result ≡ [] }
     {
         Shared {

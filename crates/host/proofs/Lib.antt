@@ -10,3 +10,4 @@ pub mod Parts
 pub mod Wants
 pub mod Peering
 pub mod Knowing
+pub mod Hosts

@@ -14,7 +14,7 @@ use Rattle.process.specs.Gather.{Turn, goes, stops, turned, gather_in, gather}
 
 -- A packet that is read leaves fewer bytes waiting.
 
-abbrev Leaves : {A : Type 0} → ℕ → Got A → Type 0
+abbrev pub Leaves : {A : Type 0} → ℕ → Got A → Type 0
 Leaves n (got x v) = length (waiting_of v.end) < n
 Leaves n (lost f v) = Unit {0}
 
@@ -31,7 +31,7 @@ leaves_hear ws (whole p b rest) v e = let h = shorter ws p b rest e in let k = l
 leaves_hear ws (bad b rest) v e = tt
 leaves_hear ws short v e = tt
 
-leaves_read : (v : Wire) → Leaves (length (waiting_of v.end)) (read v)
+pub leaves_read : (v : Wire) → Leaves (length (waiting_of v.end)) (read v)
 leaves_read v = leaves_hear (waiting_of v.end) (front (waiting_of v.end)) v refl
 
 leaves_wanted : (n : ℕ) (p : Pkt) (v : Wire) → length (waiting_of v.end) < n → Leaves n (wanted p v)
@@ -48,10 +48,38 @@ leaves_text : (n : ℕ) (o : Option (List ℕ)) (v : Wire) → length (waiting_o
 leaves_text n None v h = h
 leaves_text n (Some l) v h = leaves_texted n (text_of l) v h
 
-leaves_read_text : (v : Wire) → Leaves (length (waiting_of v.end)) (read_text v)
-leaves_read_text v =
-    let n = length (waiting_of v.end) in
-    leaves_then n (read_content v) text_in (leaves_then n (read v) wanted (leaves_read v) (leaves_wanted n)) (leaves_text n)
+pub leaves_read_content : (v : Wire) → Leaves (length (waiting_of v.end)) (read_content v)
+leaves_read_content v = let n = length (waiting_of v.end) in leaves_then n (read v) wanted (leaves_read v) (leaves_wanted n)
+
+pub leaves_read_text : (v : Wire) → Leaves (length (waiting_of v.end)) (read_text v)
+leaves_read_text v = let n = length (waiting_of v.end) in leaves_then n (read_content v) text_in (leaves_read_content v) (leaves_text n)
+
+-- A reading goes on from where it stands: how many turns it had left does not matter.
+
+module _ {S X A : Type 0} (reader : Wire → Got X) (step : S → X → Turn S A) where
+  turned_same : (a b : S → Wire → Got A) (n : ℕ) → ((s : S) (u : Wire) → length (waiting_of u.end) < n → a s u ≡ b s u) → (t : Turn S A) (u : Wire) → length (waiting_of u.end) < n
+      → turned a t u ≡ turned b t u
+  turned_same a b n same (goes s es) u h = same s (wire u.end u.later (es ++ u.events)) h
+  turned_same a b n same (stops x) u h = refl
+
+  then_same : (a b : S → Wire → Got A) (n : ℕ) → ((s : S) (u : Wire) → length (waiting_of u.end) < n → a s u ≡ b s u) → (s : S) (g : Got X) → Leaves n g
+      → then g (λ x u. turned a (step s x) u) ≡ then g (λ x u. turned b (step s x) u)
+  then_same a b n same s (got x u) h = turned_same a b n same (step s x) u h
+  then_same a b n same s (lost f u) h = refl
+
+  module _ (leaves : (v : Wire) → Leaves (length (waiting_of v.end)) (reader v)) where
+    turns_same : (k m : ℕ) (s : S) (v : Wire) → length (waiting_of v.end) < k → length (waiting_of v.end) < m → gather_in reader step k s v ≡ gather_in reader step m s v
+    turns_same zero m s v h l = absurd (omega arith)
+    turns_same (suc k) zero s v h l = absurd (omega arith)
+    turns_same (suc k) (suc m) s v h l =
+        then_same (gather_in reader step k) (gather_in reader step m) (length (waiting_of v.end)) (λ s' u i. turns_same k m s' u (omega arith) (omega arith)) s (reader v) (leaves v)
+
+    -- one turn, and what is left of the reading then
+    pub gather_on : (s : S) (v : Wire) → gather reader step s v ≡ then (reader v) (λ x u. turned (gather reader step) (step s x) u)
+    unfolding gather
+    gather_on s v =
+        let n = length (waiting_of v.end) in
+        then_same (gather_in reader step n) (gather reader step) n (λ s' u i. turns_same n (suc (length (waiting_of u.end))) s' u i (omega arith)) s (reader v) (leaves v)
 
 -- the same of a call on a host
 falls : {X : Type 0} (reader : Wire → Got X) → ((v : Wire) → Leaves (length (waiting_of v.end)) (reader v))

@@ -1,4 +1,4 @@
-//! What this crate lends the next: the next request, read from a peer.
+//! What this crate lends the next: the next request, read from a peer; and how its lines are stored, for who reads them otherwise.
 ghost use Rattle.std.specs.Prelude.{◌≡◌, ℕ, ◌≤◌, List, length};
 ghost use Rattle.std.specs.Option.{option_map};
 ghost use Rattle.host.specs.Peers.{seen, SameLent};
@@ -7,7 +7,7 @@ ghost use Rattle.requests.specs.Requests.{unasked, heard, ReadsCommand, ReadsMet
 
 use crate::asked::{Asked, MetaRow};
 use crate::fault::RequestFault;
-use crate::store::{store_command, store_pair};
+pub use crate::store::{store_command, store_pair};
 use host::fault::{Fault, LineFault};
 use host::host::Host;
 use host::peer::Peer;

@@ -19,7 +19,7 @@ fn lay(text: &mut [u8], at: usize, bytes: &[u8])
 }
 
 /// Stores the command in a line at the front of the text area; and its length.
-pub(crate) fn store_command(text: &mut [u8], line: &[u8]) -> Result<usize, RequestFault>
+pub fn store_command(text: &mut [u8], line: &[u8]) -> Result<usize, RequestFault>
     ensures { StoresCommand text.old line.now result text.new }
 {
     let Some(command) = after(b"command=", line) else {
@@ -65,7 +65,7 @@ fn store(
 }
 
 /// Stores the pair in a line of metadata; and the place behind it.
-pub(crate) fn store_pair(
+pub fn store_pair(
     rows: &mut Rows<'_, MetaRow>,
     text: &mut [u8],
     at: usize,

@@ -1,2 +1,1 @@
-pub mod Hosts
 pub mod Scripted

@@ -1,8 +1,7 @@
 -- The script host keeps the host's meaning.
-use Rattle.std.proofs.Common.{◌≡◌, ℕ, zero, suc, ◌+◌, ◌-◌, ◌<◌, ◌≤◌, min, Bool, true, false, cond, not, ltb, subst, List, [], ◌∷◌, ◌++◌, map, length, get_or, take, drop, set, replicate, is_some, Some, None, Ok, Err, Option, Result, sym, refl, ap, ◌∙◌, ⊎_elim, arith}
+use Rattle.std.proofs.Common.{◌≡◌, ℕ, zero, suc, ◌+◌, ◌-◌, ◌<◌, ◌≤◌, min, Bool, true, false, cond, not, ltb, subst, List, [], ◌∷◌, ◌++◌, map, length, get_or, take, set, replicate, is_some, Some, None, Ok, Err, Option, Result, sym, refl, ap, ◌∙◌, ⊎_elim, arith}
 use mathlib.Core.Path.{fun_ext}
-use borrow.Rule.Slice.PartMut.{post_of}
-use Rattle.std.proofs.lemmas.List.{get_or-take, get_or-set_same, map-set, map_push, length-map, length-take, drop-drop, drop-take, take_more_set}
+use Rattle.std.proofs.lemmas.List.{get_or-take, get_or-set_same, map-set, map_push, length-map, length-take, take_more_set}
 use Rattle.std.proofs.Math.ListN.{get_or-map}
 use Rattle.std.proofs.lemmas.Bool.{cases_lt, cond-true, and_from, le-leb, lt-ltb, false≢true}
 use Rattle.std.specs.List.{list_all, slice_get, position_or_len}
@@ -27,19 +26,6 @@ take_set_any zero xs i x = refl
 take_set_any (suc n) [] i x = refl
 take_set_any (suc n) (y ∷ ys) zero x = refl
 take_set_any (suc n) (y ∷ ys) (suc i) x = ap (λ l. y ∷ l) (take_set_any n ys i x)
-
--- parts
-
--- a part without its first n bytes
-pub part_rest : (bytes : List ℕ) (at len n : ℕ) → n ≤ len → take (len - n) (drop (at + n) bytes) ≡ drop n (take len (drop at bytes))
-part_rest bytes at len n h =
-    ap (take (len - n)) (sym (drop-drop n at bytes)) ∙ sym (drop-take n (len - n) (drop at bytes)) ∙ ap (λ m. drop n (take m (drop at bytes))) (omega arith)
-
--- the front of an area after a copy of the first n bytes
-pub copied : (waiting area copy : List ℕ) (n : ℕ) → copy ≡ take (n - 0) waiting → copy ++ post_of 0 (n - 0) area ≡ take n waiting ++ drop n area
-copied waiting area copy n e =
-    let z : n - 0 ≡ n = omega arith in
-    ap (λ l. l ++ drop (n - 0) area) e ∙ ap (λ m. take m waiting ++ drop m area) z
 
 -- rows in places of their own
 pub placed_is : (rows : List Row) (n : ℕ) (places : List (Option Row)) → length rows ≤ n → length places ≡ n

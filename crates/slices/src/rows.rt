@@ -1,5 +1,5 @@
 //! Rows over a lent slice that refuse when full.
-ghost use Rattle.std.specs.Prelude.{◌≡◌, ◌≤◌, length, take};
+ghost use Rattle.std.specs.Prelude.{◌≡◌, ◌≤◌, length, take, min};
 ghost use Rattle.slices.specs.Answers.{told};
 ghost use Rattle.slices.specs.Held.{full_number, handed_back, pushed, IsPush};
 
@@ -36,6 +36,15 @@ impl<'a, T: Drop> Rows<'a, T> {
         ensures empty { (result.rows.now ≡ rows.old) × (result.count ≡ 0) }
     {
         Rows { rows, count: 0 }
+    }
+
+    /// The first `count` rows are held already; all of them, where there are not so many.
+    pub fn resume(rows: &'a mut [T], count: usize) -> Rows<'a, T>
+        ensures lender { result.rows.ghost_name ≡ rows.entry.ghost_name }
+        ensures held { (result.rows.now ≡ rows.old) × (result.count ≡ min count (length rows.old)) }
+    {
+        let count = count.min(rows.len());
+        Rows { rows, count }
     }
 
     /// Holds one row more, or hands the row back where each place is held.

@@ -3,8 +3,7 @@ use Rattle.std.proofs.lemmas.Grind.{common_steps}
 use Rattle.host.specs.Worlds.{live, with_process}
 use Rattle.scripts.specs.Rows.{pipe}
 use Rattle.scripts.specs.Scripts.{world_of}
-use Rattle.scripts.proofs.Hosts.{received_some}
-use Rattle.scripts.proofs.Scripted.{part_rest, copied}
+use Rattle.host.proofs.Hosts.{received_some, part_rest, copied}
 use Rattle.scripts.proofs.script.ScriptHost.receive.Goals as goal
 
 pub returns-clause-goes : goal.returns-clause-goes

@@ -4,7 +4,7 @@ use Rattle.host.specs.Worlds.{live, with_process}
 use Rattle.slices.specs.Parts.{part}
 use Rattle.scripts.specs.Rows.{pipe}
 use Rattle.scripts.specs.Scripts.{world_of}
-use Rattle.scripts.proofs.Hosts.{sent_gone, sent_snag, sent_whole}
+use Rattle.host.proofs.Hosts.{sent_gone, sent_snag, sent_whole}
 use Rattle.scripts.proofs.script.ScriptHost.send.Goals as goal
 
 pub returns-in_default-clause-goes : goal.returns-in_default-clause-goes

@@ -1,6 +1,7 @@
 -- What an implementation of a host shows, by the process that its call is about.
-use Rattle.std.proofs.Common.{◌≡◌, ℕ, ◌<◌, ◌≤◌, leb, List, [], ◌++◌, length, take, drop, set, Ok, Err, sym, refl, ap, ◌∙◌, arith}
-use Rattle.std.proofs.lemmas.List.{length-take-le, set-get_or}
+use Rattle.std.proofs.Common.{◌≡◌, ℕ, ◌+◌, ◌-◌, ◌<◌, ◌≤◌, leb, List, [], ◌++◌, length, take, drop, set, Ok, Err, sym, refl, ap, ◌∙◌, arith}
+use borrow.Rule.Slice.PartMut.{post_of}
+use Rattle.std.proofs.lemmas.List.{length-take-le, set-get_or, drop-drop, drop-take}
 use Rattle.std.proofs.lemmas.Bool.{le-leb, lt-leb, cond-true, cond-false}
 use Rattle.packetline.specs.Packets.{over}
 use Rattle.host.specs.declared.fault.Fault.{Fault}
@@ -57,3 +58,16 @@ module _ (w : World) (p : ℕ) where
             later = later;
             after = f ∙ ap (with_process w p) (sym (ap (λ x. sent_to x bytes later) e ∙ cond-true (leb (length bytes) q.allowance) _ _ yes));
           }
+
+-- Bytes that are taken
+
+-- a part of a byte string without its first n bytes
+pub part_rest : (bytes : List ℕ) (at len n : ℕ) → n ≤ len → take (len - n) (drop (at + n) bytes) ≡ drop n (take len (drop at bytes))
+part_rest bytes at len n h =
+    ap (take (len - n)) (sym (drop-drop n at bytes)) ∙ sym (drop-take n (len - n) (drop at bytes)) ∙ ap (λ m. drop n (take m (drop at bytes))) (omega arith)
+
+-- the front of an area after a copy of the first n bytes
+pub copied : (waiting area copy : List ℕ) (n : ℕ) → copy ≡ take (n - 0) waiting → copy ++ post_of 0 (n - 0) area ≡ take n waiting ++ drop n area
+copied waiting area copy n e =
+    let z : n - 0 ≡ n = omega arith in
+    ap (λ l. l ++ drop (n - 0) area) e ∙ ap (λ m. take m waiting ++ drop m area) z
