@@ -1,26 +1,20 @@
 -- What a server's handshake means, from the packets that pass.
-use Rattle.std.proofs.Common.{◌≡◌, ℕ, ◌+◌, ◌<◌, ◌≤◌, Bool, true, false, cond, ltb, ◌&&◌, ◌⊎◌, List, [], ◌∷◌, ◌++◌, map, length, Some, None, Ok, Err, codes, Option, Result, sym, refl, ap, ◌∙◌, subst, inl, inr, ⊎_elim, arith}
+use Rattle.std.proofs.Common.{◌≡◌, ℕ, ◌+◌, ◌≤◌, Bool, true, false, cond, ltb, ◌&&◌, ◌⊎◌, List, [], ◌∷◌, ◌++◌, map, length, Some, None, Ok, Err, codes, Option, Result, sym, refl, ap, ◌∙◌, subst, inl, inr, ⊎_elim, arith}
 use Rattle.std.proofs.lemmas.List.{append_assoc, append-nil}
-use Rattle.std.proofs.lemmas.Bool.{ltb-true, and_parts}
+use Rattle.std.proofs.lemmas.Bool.{ltb-true}
 use Rattle.slices.specs.declared.name.Name.{Name}
 use Rattle.packetline.specs.Packets.{Pkt, flush, line, Decoded, decode, packets, flushes_of}
 use Rattle.packetline.specs.Lines.{kind_of}
-use Rattle.packetline.specs.Text.{utf8, trim_end, number_of}
-use Rattle.host.specs.declared.peer.Peer.{Peer}
-use Rattle.host.specs.Worlds.{World}
-use Rattle.host.specs.Acts.{Log}
-use Rattle.host.specs.Peers.{Does}
+use Rattle.packetline.specs.Text.{utf8, trim_end}
 use Rattle.host.specs.declared.fault.LineFault.{LineFault}
-use Rattle.host.specs.Talk.{bytes_sent, bytes_given, Areas, Wire, Got, got, then, send_all, read_text, Sight, Talks}
-use Rattle.process.specs.Peers.{DoesBy}
-use Rattle.process.specs.Gather.{Turn, goes, stops}
+use Rattle.host.specs.Talk.{bytes_sent, bytes_given, Areas, Wire, Got, send_all, read_text, Sight, Talks}
 use Rattle.process.specs.Given.{ReadsAs, all_text}
-use Rattle.process.proofs.Passes.{Passes, passes_so, part_passes, part_less, PartSent, NoFlush, AText, text_passes, quiet_none, Turns, gather_passes, Told, told_by_talk}
+use Rattle.process.proofs.Passes.{Passes, part_passes, part_less, AText, text_passes, quiet_none, Turns, gather_passes, Told, told_by_talk}
 use Rattle.process.proofs.Tellings.{map_push, text_push, text_silent, flushes_append, lines_flushes, lines_same}
 use Rattle.handshake.specs.Judged.{version_in, capability_in, if_right, read_judged}
 use Rattle.handshake.specs.Servers.{hailed, with_version, versions_turn, versions_step, picked, with_shared, shared_after, shared_of, shared_step, answers, shares, read_versions, read_shared, Met, met, meets, shares_then, shared_then, answers_then, pick_then, versions_then, served, Offers, SharedBy, Heard, ServedLaw}
 use Rattle.handshake.proofs.Prefixes.{greets_role, version_digits, digits_version}
-use Rattle.handshake.proofs.VersionsLoop.{Each, OfferLines, offer_push, offer_none, more_if}
+use Rattle.handshake.proofs.VersionsLoop.{Each, OfferLines, offer_push, offer_none}
 use Rattle.handshake.proofs.Sharings.{shared_means}
 use Rattle.handshake.proofs.Shakes.{From, from_then, from_got, from_start, judged_passes}
 

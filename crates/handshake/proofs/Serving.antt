@@ -7,7 +7,7 @@ use Rattle.host.specs.declared.fault.LineFault.{LineFault}
 use Rattle.host.specs.declared.peer.Peer.{Peer}
 use Rattle.host.specs.Worlds.{World}
 use Rattle.host.specs.Acts.{Log}
-use Rattle.host.specs.Talk.{bytes_sent, bytes_given, Areas, Wire, Got, got, then, Sight, Talks}
+use Rattle.host.specs.Talk.{bytes_sent, bytes_given}
 use Rattle.host.specs.Peers.{Does}
 use Rattle.host.proofs.Peering.{does_got}
 use Rattle.process.specs.Given.{ReadsAs}
@@ -123,7 +123,7 @@ module _ {H : Type 0} {log : H → Log} {world : H → World} (prefix rows : Lis
           (by_does (λ given. (behind : List ℕ) → HoldsOffers rows (given ++ behind) rows') d (λ sent given k. k)) (does_given t) (λ given more k u. k more))
 
 -- the first n of the rows
-pub chosen_front : (choice : List ℕ → Option ℕ) (n : ℕ) (rows : List ℕ) → choice (take n rows) ≡ choice (take (n - 0) rows)
+chosen_front : (choice : List ℕ → Option ℕ) (n : ℕ) (rows : List ℕ) → choice (take n rows) ≡ choice (take (n - 0) rows)
 chosen_front choice n rows = let z : n ≡ n - 0 = omega arith in ap (λ m. choice (take m rows)) z
 
 -- no version is chosen
@@ -134,11 +134,21 @@ mismatch_is (Some n) e r h k = let z : Err e ≡ Ok n = sym k ∙ h in let w : �
 -- What follows a choice, where it answers none, and where it answers a version
 
 module _ {H : Type 0} {log : H → Log} {world : H → World} (prefix : List ℕ) (choice : List ℕ → Option ℕ) (names : List Name) (vs : List ℕ) {p : Peer H} where
-  pub picked_none : choice vs ≡ None → Does log world (pick_then prefix choice names vs) p (Ok (Err 38)) p
+  picked_none : choice vs ≡ None → Does log world (pick_then prefix choice names vs) p (Ok (Err 38)) p
   picked_none e = subst (λ o. Does log world (λ v. if_right (answers_then prefix names) (picked o) v) p (Ok (Err 38)) p) (sym e) (does_got (Err 38) p)
 
-  pub picked_one : (n : ℕ) → choice vs ≡ Some n → {r : Result (Result Met ℕ) LineFault} {p' : Peer H} → Does log world (answers_then prefix names n) p r p' → Does log world (pick_then prefix choice names vs) p r p'
+  picked_one : (n : ℕ) → choice vs ≡ Some n → {r : Result (Result Met ℕ) LineFault} {p' : Peer H} → Does log world (answers_then prefix names n) p r p' → Does log world (pick_then prefix choice names vs) p r p'
   picked_one n e {r} {p'} d = subst (λ o. Does log world (λ v. if_right (answers_then prefix names) (picked o) v) p r p') (sym e) d
+
+module _ {H : Type 0} {log : H → Log} {world : H → World} (prefix rows : List ℕ) (choice : List ℕ → Option ℕ) (names : List Name) {p p₁ : Peer H} (hail : Does log world (read_judged (hailed prefix)) p (Ok (Ok tt)) p₁) {rows' : List ℕ}
+    {p₂ : Peer H} (count : ℕ) (d : DoesBy log world (λ _ given r. HoldsOn rows given r rows') (read_versions (length rows)) p₁ (Ok (Ok (take count rows'))) p₂) where
+  -- no version was chosen
+  pub serve_mismatched : choice (take (count - 0) rows') ≡ None → Serves log world prefix rows choice names rows' p (Ok (Err 38)) p₂
+  serve_mismatched e = serve_on prefix rows choice names hail (take count rows') d (picked_none prefix choice names (take count rows') (chosen_front choice count rows' ∙ e))
+
+  -- a version was chosen
+  pub serve_met : (n : ℕ) → choice (take (count - 0) rows') ≡ Some n → {r : Result (Result Met ℕ) LineFault} {p₃ : Peer H} → Does log world (answers_then prefix names n) p₂ r p₃ → Serves log world prefix rows choice names rows' p r p₃
+  serve_met n e t = serve_on prefix rows choice names hail (take count rows') d (picked_one prefix choice names (take count rows') n (chosen_front choice count rows' ∙ e) t)
 
 -- the rows as the caller has them back, and an answer known by an equation
 pub serves_back : {H : Type 0} {log : H → Log} {world : H → World} (prefix rows : List ℕ) (choice : List ℕ → Option ℕ) (names : List Name) {rows' space' : List ℕ} {p p' : Peer H} {r r' : Result (Result Met ℕ) LineFault}

@@ -1,5 +1,5 @@
 //! The parts of a server's handshake.
-ghost use Rattle.std.specs.Prelude.{◌≡◌, ◌≤◌, ◌<◌, Some, length, take, IfOk};
+ghost use Rattle.std.specs.Prelude.{◌≡◌, ◌≤◌, ◌<◌, Some, Ok, length, take, IfOk};
 ghost use Rattle.std.specs.Option.{option_map};
 ghost use Rattle.slices.specs.Answers.{told};
 ghost use Rattle.slices.specs.Names.{name_bytes};
@@ -10,7 +10,7 @@ ghost use Rattle.process.specs.Peers.{DoesBy};
 ghost use Rattle.handshake.specs.Judged.{version_in, capability_in, heard};
 ghost use Rattle.handshake.specs.Places.{AllWithin};
 ghost use Rattle.handshake.specs.Sharing.{places_of};
-ghost use Rattle.handshake.specs.Servers.{objection_number, hailed, KeepsVersion, read_versions, HoldsOn, with_shared, read_shared, answers, shares};
+ghost use Rattle.handshake.specs.Servers.{objection_number, hailed, KeepsVersion, read_versions, HoldsOn, with_shared, read_shared, answers, shares, answers_then, met};
 
 use crate::judged::{greets, place_of, send_version, version_in};
 use crate::protocol::{Objection, Refusal};
@@ -57,7 +57,7 @@ pub(crate) fn read_versions<H: Host>(
 }
 
 /// The server's welcome, the version that it chose, and a flush.
-pub(crate) fn send_answers<H: Host>(
+fn send_answers<H: Host>(
     peer: &mut Peer<'_, H>,
     prefix: &Name,
     version: u64,
@@ -86,10 +86,7 @@ pub fn with_line(shared: Shared, line: &[u8], names: &[Name]) -> Shared
 }
 
 /// Reads the names that the client sends, up to the flush, and keeps those that are available.
-pub(crate) fn read_shared<H: Host>(
-    peer: &mut Peer<'_, H>,
-    names: &[Name],
-) -> Result<Shared, LineFault>
+fn read_shared<H: Host>(peer: &mut Peer<'_, H>, names: &[Name]) -> Result<Shared, LineFault>
     requires { length names.now ≤ 32 }
     ensures goes { Does H.log H.world (read_shared names.now) peer.old (told places_of (λ f. f) result) peer.new }
     ensures within { IfOk result (λ s. AllWithin (length names.now) (places_of s)) }
@@ -102,7 +99,7 @@ pub(crate) fn read_shared<H: Host>(
 }
 
 /// A line for each shared name, and a flush.
-pub(crate) fn send_shares<H: Host>(
+fn send_shares<H: Host>(
     peer: &mut Peer<'_, H>,
     names: &[Name],
     shared: &Shared,
@@ -115,4 +112,20 @@ pub(crate) fn send_shares<H: Host>(
         peer.send_pair(b"capability", b'=', names[*k].as_bytes())?;
     }
     peer.send_flush()
+}
+
+/// Says the version that was chosen, hears which names the client wants, and names those that are available.
+pub(crate) fn share<H: Host>(
+    peer: &mut Peer<'_, H>,
+    prefix: &Name,
+    version: u64,
+    names: &[Name],
+) -> Result<Shared, LineFault>
+    requires { length names.now ≤ 32 }
+    ensures { Does H.log H.world (answers_then (name_bytes prefix.now) names.now version) peer.old (told (λ s. Ok (met version (places_of s))) (λ f. f) result) peer.new }
+{
+    send_answers(peer, prefix, version)?;
+    let shared = read_shared(peer, names)?;
+    send_shares(peer, names, &shared)?;
+    Ok(shared)
 }

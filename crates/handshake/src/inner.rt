@@ -9,7 +9,7 @@ ghost use Rattle.handshake.specs.Sharing.{met_by};
 
 use crate::agreement::{Accord, Agreement};
 pub use crate::hearing::{judge_hail, keep_version, with_line};
-use crate::hearing::{read_shared, read_versions, send_answers, send_shares};
+use crate::hearing::{read_versions, share};
 use crate::judged::read_judged;
 use crate::parts::{judge_end, judge_version, judge_welcome, read_names, send_desired, send_hello};
 use crate::protocol::{Objection, Protocol, Refusal};
@@ -55,8 +55,6 @@ pub fn serve<H: Host, C: Choice>(
     read_judged(peer, |line: Option<&[u8]>| judge_hail(line, prefix))?;
     let count = read_versions(peer, rows)?;
     let version = choice.choose(&rows[0..count]).ok_or(Objection::Mismatch)?;
-    send_answers(peer, prefix, version)?;
-    let shared = read_shared(peer, names)?;
-    send_shares(peer, names, &shared)?;
+    let shared = share(peer, prefix, version, names)?;
     Ok(Accord { version, shared })
 }

@@ -3,3 +3,4 @@ pub mod Limits
 pub mod Operations
 pub mod Places
 pub mod Records
+pub mod Refusals
