@@ -24,7 +24,7 @@ loop-k-preserved c =
     let ks = places_of c.args.shared.now in
     let all : AllWithin (length c.args.names.now) ks = subst (λ m. AllWithin m ks) (sym c.requires.two) c.requires.inside in
     let next = shared_next c.args.names.now _ ks c.loop-k.k-index n c.as_bytes.result.now c.as_slice-k-items.ensures all c.loop-k-test.true c.index-names-k.is c.as_bytes.ensures.value in
-    let long : length c.as_bytes.result.now ≤ 64 = omega (arith, ap length c.as_bytes.ensures.value, length-take n.len n.bytes, n.fits) in
+    let long : length c.as_bytes.result.now ≤ 64 = omega (arith, ap length c.as_bytes.ensures.value, length-take n.text.len n.text.bytes, n.text.fits) in
     let s = c.args.shared.now in
     record {
       say = one_said i.say next c.say_pair.ensures.says;
