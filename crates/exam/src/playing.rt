@@ -1,5 +1,5 @@
 //! A sheet played over a host.
-use crate::cast::{Played, Sheet};
+use crate::cast::{Played, Scene, Sheet};
 use crate::listing::{Described, Listing};
 use crate::refusals::{Answer, Stopped, refused};
 use crate::sheet::{Call, PlainCall, What};
@@ -8,6 +8,7 @@ use anyhow::bail;
 use host::host::{Host, How};
 use host::reading::read;
 use host::sending::{send_flush, send_line};
+use mirror::mirror::Mirror;
 use recording::show::Escaped;
 use scripts::script::Script;
 
@@ -153,9 +154,14 @@ pub(crate) fn play(rt: &HostRuntime, lines: &[&[u8]]) -> anyhow::Result<()> {
             bail!("a line of the sheet is bad");
         }
     }
-    let Sheet { cast, played } = sheet;
-    let Ok(script) = Script::new(&cast.bytes, &cast.rows) else {
-        bail!("a sheet has at most 16 processes");
-    };
-    play_over(rt, script, played)
+    let Sheet { scene, played } = sheet;
+    match scene {
+        Scene::Script(cast) => {
+            let Ok(script) = Script::new(&cast.bytes, &cast.rows) else {
+                bail!("a sheet has at most 16 processes");
+            };
+            play_over(rt, script, played)
+        }
+        Scene::Mirror => play_over(rt, Mirror::new(), played),
+    }
 }
