@@ -1,4 +1,4 @@
-//! A client's calls over a script that is traced, and their answers in words.
+//! A client's calls over a host that is traced, and their answers in words.
 use crate::lines::items;
 use crate::listing::{Quoted, shown};
 use crate::refusals::{Answer, Stopped, refused};
@@ -10,6 +10,7 @@ use client::listing::ListFault;
 use client::paths::PathRow;
 use client::result::Output;
 use host::call::CallError;
+use host::host::Host;
 use process::area::MAX_STATUS_LEN;
 use process::capabilities::Capabilities;
 use process::status::{Status, Word};
@@ -103,7 +104,7 @@ fn path_at(text: &[u8], row: PathRow) -> &[u8] {
         .unwrap_or(b"")
 }
 
-impl Stage<'_> {
+impl<H: Host> Stage<H> {
     /// A status, whose name lies in the status area.
     fn told(&self, status: Status) -> Told<'_> {
         Told {

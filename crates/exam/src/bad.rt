@@ -10,6 +10,8 @@ use std::fmt;
 pub(crate) enum Bad {
     Words,
     NoProcess,
+    MirrorLate,
+    MirrorTold,
     NotShown,
     NotHexadecimal,
     OutsideLimits,
@@ -24,6 +26,8 @@ impl fmt::Display for Bad {
         f.write_str(match self {
             Bad::Words => "these are not the words of a sheet",
             Bad::NoProcess => "no process stands before what is given",
+            Bad::MirrorLate => "the first line that says anything tells of a mirror, and no other",
+            Bad::MirrorTold => "a sheet does not tell what the processes of a mirror give",
             Bad::NotShown => "bytes are not shown so between quotation marks",
             Bad::NotHexadecimal => "its bytes are not pairs of lower-case hexadecimal digits",
             Bad::OutsideLimits => "a payload has 1 to 65516 bytes",

@@ -1,6 +1,7 @@
 //! A sheet, read whole before anything is played.
 use crate::bad::Bad;
 use crate::sheet::{Call, Entry, What, read_entry};
+use host::fault::{Fault, Snag};
 use packetline::encode::line_to_area;
 use scripts::script::{Part, Row};
 use std::alloc::Global;
@@ -48,6 +49,26 @@ impl Cast {
         })
     }
 
+    /// Adds a process, which gives nothing yet.
+    fn enter(
+        &mut self,
+        command: &[u8],
+        ending: Fault,
+        allowance: usize,
+        snag: Snag,
+    ) -> Result<(), Bad> {
+        let command = self.lay(command)?;
+        let plays = self.lay(b"")?;
+        self.rows.push(Row {
+            command,
+            plays,
+            ending,
+            allowance,
+            snag,
+        })?;
+        Ok(())
+    }
+
     /// Adds bytes behind what the last process gives.
     fn give(&mut self, bytes: &[u8]) -> Result<(), Bad> {
         let Some(row) = self.rows.last_mut() else {
@@ -59,6 +80,13 @@ impl Cast {
     }
 }
 
+/// What a sheet is played over: processes that it tells itself, or those of a mirror.
+#[derive(Drop)]
+pub(crate) enum Scene {
+    Script(Cast),
+    Mirror,
+}
+
 /// A line that is played, and what it says.
 #[derive(Drop)]
 pub(crate) struct Played<'a> {
@@ -66,18 +94,26 @@ pub(crate) struct Played<'a> {
     pub(crate) call: Call<'a>,
 }
 
-/// The processes of a sheet, and what is played over them.
+/// What a sheet is played over, and what is played.
 #[derive(Drop)]
 pub(crate) struct Sheet<'a> {
-    pub(crate) cast: Cast,
+    pub(crate) scene: Scene,
     pub(crate) played: Vec<Played<'a>>,
 }
 
 impl<'a> Sheet<'a> {
     pub(crate) fn new(heap: Global) -> Sheet<'a> {
         Sheet {
-            cast: Cast::new(heap),
+            scene: Scene::Script(Cast::new(heap)),
             played: Vec::new(heap),
+        }
+    }
+
+    /// Whether a line said something.
+    fn is_begun(&self) -> bool {
+        match &self.scene {
+            Scene::Script(cast) => !cast.rows.is_empty() || !self.played.is_empty(),
+            Scene::Mirror => true,
         }
     }
 
@@ -87,23 +123,29 @@ impl<'a> Sheet<'a> {
             return Ok(());
         };
         match entry {
+            Entry::Mirror => {
+                if self.is_begun() {
+                    return Err(Bad::MirrorLate);
+                }
+                self.scene = Scene::Mirror;
+            }
             Entry::Process {
                 command,
                 ending,
                 allowance,
                 snag,
             } => {
-                let command = self.cast.lay(command)?;
-                let plays = self.cast.lay(b"")?;
-                self.cast.rows.push(Row {
-                    command,
-                    plays,
-                    ending,
-                    allowance,
-                    snag,
-                })?;
+                let Scene::Script(cast) = &mut self.scene else {
+                    return Err(Bad::MirrorTold);
+                };
+                cast.enter(command, ending, allowance, snag)?;
             }
-            Entry::Gives(what) => self.cast.give(&raw(heap, what)?)?,
+            Entry::Gives(what) => {
+                let Scene::Script(cast) = &mut self.scene else {
+                    return Err(Bad::MirrorTold);
+                };
+                cast.give(&raw(heap, what)?)?;
+            }
             Entry::Call(call) => self.played.push(Played { line, call })?,
         }
         Ok(())

@@ -1,5 +1,5 @@
-//! A sheet played over the script host.
-use crate::cast::{Played, Sheet};
+//! A sheet played over a host.
+use crate::cast::{Played, Scene, Sheet};
 use crate::listing::{Described, Listing};
 use crate::refusals::{Answer, Stopped, refused};
 use crate::sheet::{Call, PlainCall, What};
@@ -8,10 +8,11 @@ use anyhow::bail;
 use host::host::{Host, How};
 use host::reading::read;
 use host::sending::{send_flush, send_line};
+use mirror::mirror::Mirror;
 use recording::show::Escaped;
 use scripts::script::Script;
 
-impl Stage<'_> {
+impl<H: Host> Stage<H> {
     /// Starts a command, and notes that its process is open.
     fn start(&mut self, command: &[u8]) -> Answer {
         let number = self.host.start(command).map_err(refused)?;
@@ -92,7 +93,11 @@ fn print_answer(rt: &HostRuntime, answer: Answer) -> anyhow::Result<()> {
 }
 
 /// Plays one line of a sheet: under a client's call stand the packets that passed, and under any call its answer.
-fn play_line(rt: &HostRuntime, stage: &mut Stage<'_>, played: Played<'_>) -> anyhow::Result<()> {
+fn play_line<H: Host>(
+    rt: &HostRuntime,
+    stage: &mut Stage<H>,
+    played: Played<'_>,
+) -> anyhow::Result<()> {
     print_line(rt, played.line)?;
     match played.call {
         Call::With(pair) => {
@@ -126,6 +131,19 @@ fn print_open(rt: &HostRuntime, started: &[Option<Listing>]) -> anyhow::Result<(
     Ok(())
 }
 
+/// Plays lines over a host, and tells at the end which processes are open.
+fn play_over<H: Host + Drop>(
+    rt: &HostRuntime,
+    host: H,
+    played: Vec<Played<'_>>,
+) -> anyhow::Result<()> {
+    let mut stage = Stage::new(rt.alloc(), host)?;
+    for line in played {
+        play_line(rt, &mut stage, line)?;
+    }
+    print_open(rt, &stage.started)
+}
+
 /// Reads a sheet, then plays it. A bad line is told before anything is played.
 pub(crate) fn play(rt: &HostRuntime, lines: &[&[u8]]) -> anyhow::Result<()> {
     let mut sheet = Sheet::new(rt.alloc());
@@ -136,13 +154,14 @@ pub(crate) fn play(rt: &HostRuntime, lines: &[&[u8]]) -> anyhow::Result<()> {
             bail!("a line of the sheet is bad");
         }
     }
-    let Sheet { cast, played } = sheet;
-    let Ok(script) = Script::new(&cast.bytes, &cast.rows) else {
-        bail!("a sheet has at most 16 processes");
-    };
-    let mut stage = Stage::new(rt.alloc(), script)?;
-    for line in played {
-        play_line(rt, &mut stage, line)?;
+    let Sheet { scene, played } = sheet;
+    match scene {
+        Scene::Script(cast) => {
+            let Ok(script) = Script::new(&cast.bytes, &cast.rows) else {
+                bail!("a sheet has at most 16 processes");
+            };
+            play_over(rt, script, played)
+        }
+        Scene::Mirror => play_over(rt, Mirror::new(), played),
     }
-    print_open(rt, &stage.started)
 }

@@ -73,6 +73,8 @@ pub(crate) enum Call<'a> {
 /// What a line of a sheet says.
 #[derive(Drop)]
 pub(crate) enum Entry<'a> {
+    /// The sheet is played over a mirror.
+    Mirror,
     Process {
         command: &'a [u8],
         ending: Fault,
@@ -265,6 +267,7 @@ pub(crate) fn read_entry(heap: Global, line: &[u8]) -> Result<Option<Entry<'_>>,
     }
     let (word, rest) = first_word(line);
     let entry = match word {
+        b"mirror" if rest.is_empty() => Entry::Mirror,
         b"process" => process(rest)?,
         b"gives" => Entry::Gives(read_what(heap, rest)?),
         _ => Entry::Call(read_call(heap, word, rest)?),

@@ -5,29 +5,28 @@ use crate::sheet::Pair;
 use anyhow::Context;
 use host::inner::MAX_LINE_LEN;
 use process::area::MAX_STATUS_LEN;
-use scripts::script::Script;
 use std::alloc::{AllocError, Global};
 use trace::traced::Traced;
 
 /// The host, a work area and a status area, the metadata that waits for an exchange, and for each process that was started the packets that passed, as long as it is open.
 #[derive(Drop)]
-pub(crate) struct Stage<'a> {
+pub(crate) struct Stage<H> {
     pub(crate) heap: Global,
-    pub(crate) host: Traced<Script<'a>>,
+    pub(crate) host: Traced<H>,
     pub(crate) work: Vec<u8>,
     pub(crate) status: Vec<u8>,
     pub(crate) pairs: Vec<Pair>,
     pub(crate) started: Vec<Option<Listing>>,
 }
 
-impl<'a> Stage<'a> {
-    /// The stage for a script, with nothing started.
-    pub(crate) fn new(heap: Global, script: Script<'a>) -> Result<Stage<'a>, AllocError> {
+impl<H: Drop> Stage<H> {
+    /// The stage for a host, with nothing started.
+    pub(crate) fn new(heap: Global, host: H) -> Result<Stage<H>, AllocError> {
         let work: Vec<u8> = vec![in heap; 0; MAX_LINE_LEN]?;
         let status: Vec<u8> = vec![in heap; 0; MAX_STATUS_LEN]?;
         Ok(Stage {
             heap,
-            host: Traced::new(script, heap),
+            host: Traced::new(host, heap),
             work,
             status,
             pairs: Vec::new(heap),
@@ -36,7 +35,7 @@ impl<'a> Stage<'a> {
     }
 }
 
-impl Stage<'_> {
+impl<H> Stage<H> {
     /// Adds what passed to the packets of its process, and answers the lines of those that it completes.
     pub(crate) fn pass(&mut self) -> anyhow::Result<String> {
         let mut lines = String::new(self.heap);

@@ -3,6 +3,7 @@ ghost use Rattle.std.specs.Prelude.{◌≡◌};
 ghost use Rattle.requests.specs.declared.fault.RequestFault.TheVariants.{Line as of_line};
 ghost use Rattle.requests.specs.Requests.{request_number};
 
+use host::call::{AreaTooShort, CallError};
 use host::fault::LineFault;
 use slices::refusal::Numbered;
 
@@ -35,3 +36,6 @@ impl From<LineFault> for RequestFault {
         RequestFault::Line(fault)
     }
 }
+
+/// Why a server that asked for the next request was refused: the area is too short, or no request was read.
+pub type RequestError = CallError<AreaTooShort, RequestFault>;

@@ -66,20 +66,11 @@ fn placed(rows: &[Row]) -> [Option<Row>; 16]
     array::from_fn(|i| rows.get(i).copied())
 }
 
-/// The bytes of a part, as far as they are there.
-fn bytes_of(bytes: &[u8], p: Part) -> &[u8]
-    ensures { result.now ≡ part bytes.now p }
-{
-    let at = p.at.min(bytes.len());
-    let end = at + p.len.min(bytes.len() - at);
-    &bytes[at..end]
-}
-
 /// Whether a place has a row of the command.
 fn is_of(bytes: &[u8], place: Option<Row>, command: &[u8]) -> bool
     ensures { result ≡ place_of bytes.now command.now place }
 {
-    place.is_some_and(|row| bytes_of(bytes, row.command) == command)
+    place.is_some_and(|row| row.command.slice(bytes) == command)
 }
 
 /// The first place that has a row of the command.
@@ -167,7 +158,7 @@ impl Host for Script<'_> {
         let Some(row) = self.playing(process) else {
             return Err(Fault::Broken);
         };
-        let waiting = bytes_of(self.bytes, row.plays);
+        let waiting = row.plays.slice(self.bytes);
         let n = waiting.len().min(room);
         if n == 0 {
             return Err(row.ending);

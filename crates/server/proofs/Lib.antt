@@ -1,3 +1,4 @@
+pub mod Serving
 pub mod Contents
 pub mod Sent
 pub mod Reports

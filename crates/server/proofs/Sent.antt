@@ -1,6 +1,6 @@
 -- Packets that are sent in one call.
-use Rattle.std.proofs.Common.{◌≡◌, ℕ, suc, ◌+◌, ◌≤◌, List, [], ◌∷◌, ◌++◌, length, Ok, Err, Option, Result, sym, refl, ap, ◌∙◌, subst, arith, append_assoc, append-nil, length-append}
-use Rattle.packetline.specs.Packets.{Pkt, flush, delimiter, response_end, line, digits, packet, packets}
+use Rattle.std.proofs.Common.{◌≡◌, ℕ, suc, List, [], ◌∷◌, ◌++◌, length, Ok, Err, Option, Result, sym, refl, ap, ◌∙◌, subst, arith, append-nil}
+use Rattle.packetline.specs.Packets.{Pkt, packet, packets}
 use Rattle.host.specs.declared.fault.Fault.{Fault}
 use Rattle.host.specs.declared.fault.LineFault.{LineFault}
 use Rattle.host.specs.declared.call.CallError.{CallError}
@@ -14,52 +14,35 @@ use Rattle.host.proofs.Talking.{talk_none, talk_then, talk_stop}
 use Rattle.process.specs.Given.{TalksBy}
 use Rattle.host.specs.Peers.{seen, Does}
 use Rattle.process.proofs.Peering.{back_by}
-use Rattle.process.proofs.Passes.{packets_append}
+use Rattle.process.proofs.Passes.{AllSent, PartSent, part_passes, part_less, Told, told_by_talk}
 use Rattle.server.specs.Says.{SaysLaw, Says}
 
--- from v on these packets were sent, or at a fault only the first of them
-abbrev Said : List Pkt → Wire → Got (Unit {0}) → Type 0
-Said ps v (got a u) = (bytes_given u.events ≡ bytes_given v.events) × (bytes_sent u.events ≡ bytes_sent v.events ++ packets ps)
-Said ps v (lost f u) =
-    (bytes_given u.events ≡ bytes_given v.events)
-    × ((ss : List Pkt) × ((p : Pkt) × ((rest : List Pkt) × (ps ≡ ss ++ p ∷ rest) × (bytes_sent u.events ≡ bytes_sent v.events ++ packets ss))))
+-- nothing was given from v on
+abbrev Unheard : Wire → Got (Unit {0}) → Type 0
+Unheard v (got a u) = bytes_given u.events ≡ bytes_given v.events
+Unheard v (lost f u) = bytes_given u.events ≡ bytes_given v.events
 
-said_more : (p : Pkt) (ps : List Pkt) (v u : Wire) (h : Got (Unit {0})) → bytes_given u.events ≡ bytes_given v.events → bytes_sent u.events ≡ bytes_sent v.events ++ packet p → Said ps u h → Said (p ∷ ps) v h
-said_more p ps v u (got a x) g s (i, j) = (i ∙ g, j ∙ ap (λ xs. xs ++ packets ps) s ∙ append_assoc (bytes_sent v.events) (packet p) (packets ps))
-said_more p ps v u (lost f x) g s (i, (ss, (q, (rest, e, j)))) =
-    (i ∙ g, (p ∷ ss, (q, (rest, ap (λ xs. p ∷ xs) e, j ∙ ap (λ xs. xs ++ packets ss) s ∙ append_assoc (bytes_sent v.events) (packet p) (packets ss)))))
+sent_unheard : (b : List ℕ) (v : Wire) (r : Result (Unit {0}) Fault) (k : Unit {0} → Wire → Got (Unit {0})) → ((u : Wire) → Unheard u (k tt u)) → Unheard v (then (sent_by r b v) k)
+sent_unheard b v (Ok a) k on = on (wire (sent_to v.end b (v.later 0)) (λ n. v.later (suc n)) (took b ∷ v.events))
+sent_unheard b v (Err f) k on = refl
 
-said_by : (p : Pkt) (ps : List Pkt) (v : Wire) (r : Result (Unit {0}) Fault) → ((u : Wire) → Said ps u (send_all ps u)) → Said (p ∷ ps) v (then (sent_by r (packet p) v) (λ _ u. send_all ps u))
-said_by p ps v (Ok a) on =
-    let u = wire (sent_to v.end (packet p) (v.later 0)) (λ n. v.later (suc n)) (took (packet p) ∷ v.events) in
-    said_more p ps v u (send_all ps u) refl refl (on u)
-said_by p ps v (Err f) on = (refl, ([], (p, (ps, refl, sym (append-nil (bytes_sent v.events))))))
+unheard : (ps : List Pkt) (v : Wire) → Unheard v (send_all ps v)
+unheard [] v = refl
+unheard (p ∷ ps) v = sent_unheard (packet p) v (refusal_of v.end (length (packet p))) (λ _ u. send_all ps u) (λ u. unheard ps u)
 
-said : (ps : List Pkt) (v : Wire) → Said ps v (send_all ps v)
-said [] v = (refl, sym (append-nil (bytes_sent v.events)))
-said (p ∷ ps) v = said_by p ps v (refusal_of v.end (length (packet p))) (λ u. said ps u)
+none_given : (v u : Wire) (r : Result (Unit {0}) LineFault) → Unheard v (ends r u) → bytes_given u.events ≡ bytes_given v.events
+none_given v u (Ok a) h = h
+none_given v u (Err f) h = h
 
--- a packet has bytes, so that fewer packets are fewer bytes
-packet_some : (p : Pkt) → 4 ≤ length (packet p)
-packet_some flush = omega arith
-packet_some delimiter = omega arith
-packet_some response_end = omega arith
-packet_some (line l) = omega (arith, length-append (digits (length l + 4)) l)
-
-fewer : (ps ss rest : List Pkt) (p : Pkt) → ps ≡ ss ++ p ∷ rest → packets ss ≡ packets ps → ⊥
-fewer ps ss rest p e same =
-    let all = ap length (same ∙ ap packets e ∙ packets_append ss (p ∷ rest)) in
-    omega (arith, packet_some p, all, length-append (packets ss) (packets (p ∷ rest)), length-append (packet p) (packets rest))
-
-law_by : (ps : List Pkt) (v u : Wire) (r : Result (Unit {0}) LineFault) → v.events ≡ [] → Said ps v (ends r u) → SaysLaw ps (bytes_sent u.events) (bytes_given u.events) r
-law_by ps v u (Ok a) none (g, s) =
-    record { nothing_given = g ∙ ap bytes_given none; says = λ e. s ∙ ap (λ es. bytes_sent es ++ packets ps) none; only = λ e. refl; stops = λ f is. let z : ◌≡◌ {A = ℕ} 0 1 = cc in absurd (omega arith) }
-law_by ps v u (Err f) none (g, (ss, (p, (rest, e, s)))) =
+law_by : (ps : List Pkt) (sent given : List ℕ) (r : Result (Unit {0}) LineFault) → given ≡ [] → Told (AllSent ps) (PartSent ps) sent given r → SaysLaw ps sent given r
+law_by ps sent given (Ok a) none (gs, (ss, reads, said, h)) =
+    record { nothing_given = none; says = λ e. said ∙ ap packets h.1; only = λ e. refl; stops = λ f is. let z : ◌≡◌ {A = ℕ} 0 1 = cc in absurd (omega arith) }
+law_by ps sent given (Err f) none (gs, (ss, reads, said, (g, (x, (rest, e))))) =
     record {
-      nothing_given = g ∙ ap bytes_given none;
+      nothing_given = none;
       says = λ is. let z : ◌≡◌ {A = ℕ} 0 1 = cc in absurd (omega arith);
-      only = λ is. absurd (fewer ps ss rest p e (sym (s ∙ ap (λ es. bytes_sent es ++ packets ss) none) ∙ is));
-      stops = λ x is. (ss, (p, (rest, e, s ∙ ap (λ es. bytes_sent es ++ packets ss) none)));
+      only = λ is. absurd (part_less ps ss x rest e (sym said ∙ is));
+      stops = λ y is. (ss, (x, (rest, e, said)));
     }
 
 -- packets that are sent have their law
@@ -68,8 +51,8 @@ says_talk {ps} {w = w} {p = p} {r = r} {w' = w'} t =
     let l = t.goes (λ _ _ _. []) in
     let v = wire (process w.world p) l.0 [] in
     let u = wire (process w'.world p) (λ _ _ _. []) (t.events ++ []) in
-    let law = law_by ps v u r refl (subst (Said ps v) (l.1 []) (said ps v)) in
-    (t, subst (λ es. SaysLaw ps (bytes_sent es) (bytes_given es) r) (append-nil t.events) law)
+    let none = none_given v u r (subst (Unheard v) (l.1 []) (unheard ps v)) in
+    (t, law_by ps (bytes_sent t.events) (bytes_given t.events) r (ap bytes_given (sym (append-nil t.events)) ∙ none) (told_by_talk (AllSent ps) (PartSent ps) (send_all ps) (part_passes ps) t))
 
 -- one packet
 one_talk : (x : Pkt) {w : Sight} {p : ℕ} {a : Areas} {w' : Sight} {a' : Areas} (r : Result (Unit {0}) LineFault) → Talks (send x) w p a r w' a' → Talks (send_all (x ∷ [])) w p a r w' a'

@@ -1,5 +1,5 @@
 -- A whole writing: its packets, and then its flush.
-use Rattle.std.proofs.Common.{◌≡◌, ℕ, List, [], ◌∷◌, ◌++◌, length, cond, nat_le, Some, None, Ok, Err, Option, Result, sym, refl, ap, ◌∙◌, arith, append_assoc, append-nil, length-append}
+use Rattle.std.proofs.Common.{◌≡◌, ℕ, List, [], ◌∷◌, ◌++◌, length, cond, nat_le, Some, None, Ok, Err, Option, Result, sym, refl, ap, ◌∙◌, arith, append-nil, length-append}
 use Rattle.packetline.specs.Packets.{flush, packets}
 use Rattle.host.specs.declared.call.AreaTooShort.{AreaTooShort}
 use Rattle.host.specs.declared.call.CallError.{CallError}
@@ -7,11 +7,11 @@ use Rattle.host.specs.declared.call.CallError.TheVariants.{Caller, Line}
 use Rattle.host.specs.Calls.{Checked, room}
 use Rattle.host.specs.Refusals.{too_short}
 use Rattle.host.specs.declared.fault.LineFault.{LineFault}
-use Rattle.host.specs.Talk.{Event, took, refused, gave, noted, bytes_sent, bytes_given, Sight}
+use Rattle.host.specs.Talk.{bytes_sent, bytes_given, Sight}
 use Rattle.host.proofs.Talking.{talk_then, talk_stop}
 use Rattle.process.specs.Given.{WorksBy}
 use Rattle.process.proofs.Passes.{packets_append}
-use Rattle.process.proofs.Reading.{given_append}
+use Rattle.process.proofs.Packetwise.{given_append, sent_append}
 use Rattle.server.specs.declared.refused.Refused.{Refused}
 use Rattle.server.specs.declared.response.Response.{Response}
 use Rattle.server.specs.declared.writing.Writing.{Writing}
@@ -19,14 +19,6 @@ use Rattle.server.specs.declared.writing.Unflushed.{Unflushed}
 use Rattle.server.specs.declared.writing.Unflushed.TheVariants.{Open, Ended}
 use Rattle.server.specs.Says.{Before, Says}
 use Rattle.server.specs.Writings.{written_packets, unflushed, widened, flush_then, written_whole, WholeLaw}
-
--- events stand the latest first
-sent_append : (xs ys : List Event) → bytes_sent (xs ++ ys) ≡ bytes_sent ys ++ bytes_sent xs
-sent_append [] ys = sym (append-nil (bytes_sent ys))
-sent_append (took b ∷ xs) ys = ap (λ l. l ++ b) (sent_append xs ys) ∙ append_assoc (bytes_sent ys) (bytes_sent xs) b
-sent_append (refused b ∷ xs) ys = sent_append xs ys
-sent_append (gave b ∷ xs) ys = sent_append xs ys
-sent_append (noted s ∷ xs) ys = sent_append xs ys
 
 -- nothing stands before a lone flush
 none_before : (sent : List ℕ) → Before (flush ∷ []) sent → sent ≡ []

@@ -1,6 +1,7 @@
-//! What a server does with one request: its content is read, then statuses and writings answer it, and it is done.
+//! A server: hands are shaken, and request after request is read and worked off.
 #![tactic(auto)]
 
+pub mod greeting;
 pub mod refused;
 pub mod request;
 pub mod response;

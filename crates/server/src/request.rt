@@ -1,5 +1,5 @@
 //! A request, and its content.
-ghost use Rattle.std.specs.Prelude.{◌≡◌, ◌≤◌, IfSome, IfOk};
+ghost use Rattle.std.specs.Prelude.{◌≡◌, ◌≤◌, IfSome, IfOk, take};
 ghost use Rattle.slices.specs.Answers.{told};
 ghost use Rattle.host.specs.Calls.{Checked, room};
 ghost use Rattle.host.specs.Talk.{sight, read_content};
@@ -14,10 +14,12 @@ use host::call::{AreaError, AreaTooShort, CallError};
 use host::host::Host;
 use host::inner::MAX_LINE_LEN;
 use host::peer::Peer;
+use requests::asked::{Asked, MetaRow};
 
 /// A request whose content was not read to its end. It cannot be dropped: its content is read or declared absent, and then it is answered.
 pub struct Request {
     pub(crate) server: Server,
+    pub(crate) asked: Asked,
 }
 
 /// What one read of a request's content gives.
@@ -49,6 +51,20 @@ fn read_part<H: Host>(
 }
 
 impl Request {
+    /// The command, in the text area that the request was read into.
+    pub fn command<'a>(&self, text: &'a [u8]) -> &'a [u8]
+        ensures { result.now ≡ take self.now.asked.command text.now }
+    {
+        &text[0..self.asked.command.min(text.len())]
+    }
+
+    /// The rows that hold the pairs of metadata, among the rows that the request was read into.
+    pub fn metadata<'a>(&self, rows: &'a [MetaRow]) -> &'a [MetaRow]
+        ensures { result.now ≡ take self.now.asked.pairs rows.now }
+    {
+        &rows[0..self.asked.pairs.min(rows.len())]
+    }
+
     /// Reads one payload, which then lies at the front of the work area, or the end of the content.
     pub fn read<H: Host>(
         self,
@@ -70,7 +86,7 @@ impl Request {
     pub fn without_content(self) -> Response
         ensures { result ≡ response_to self }
     {
-        let Request { server } = self;
+        let Request { server, asked: _ } = self;
         Response { server }
     }
 }

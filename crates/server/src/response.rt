@@ -6,13 +6,14 @@ ghost use Rattle.host.specs.Parts.{Parted};
 ghost use Rattle.process.specs.Given.{WorksBy};
 ghost use Rattle.host.specs.Peers.{Does};
 ghost use Rattle.host.specs.Talk.{sight, send_all};
+ghost use Rattle.server.specs.Asking.{asked_in, GoesOn, ReadsNext};
 ghost use Rattle.server.specs.Refusals.{why, went, HandsBack};
 ghost use Rattle.server.specs.Responses.{sayable, report_packets, report_fault, IsTold};
 ghost use Rattle.server.specs.Says.{Says};
 ghost use Rattle.server.specs.Writings.{writing_on, written_whole, unflushed, EndsWriting, WholeLaw};
 
 use crate::refused::Refused;
-use crate::server::Server;
+use crate::server::{Next, Server};
 use crate::writing::{Unflushed, Writing};
 use host::call::{AreaError, CallError};
 use host::fault::LineFault;
@@ -22,6 +23,8 @@ use host::peer::Peer;
 use host::sending::SendError;
 use packetline::encode;
 use process::area::MAX_STATUS_LEN;
+use requests::asked::MetaRow;
+use requests::fault::RequestError;
 
 /// A request whose content was read or declared absent: statuses and writings answer it, until it is done. It cannot be dropped.
 pub struct Response {
@@ -121,6 +124,20 @@ impl Response {
             Ok(writing) => Ok(writing.flush(host, work)?),
             Err(refused) => Err(Unflushed::Open(refused)),
         }
+    }
+
+    /// The request is answered, and the next one is read.
+    pub fn then_next<H: Host>(
+        self,
+        host: &mut H,
+        work: &mut [u8],
+        rows: &mut [MetaRow],
+        text: &mut [u8],
+    ) -> Result<Next, Refused<Server, RequestError>>
+        ensures itself { GoesOn self.server result }
+        ensures goes { Checked (room work.old) (λ x. ReadsNext rows.old text.old (sight (H.log host.old) (H.world host.old)) self.server.process work.old x (sight (H.log host.new) (H.world host.new)) work.new rows.new text.new) ((host.new ≡ host.old) × (work.new ≡ work.old) × (rows.new ≡ rows.old) × (text.new ≡ text.old)) (told asked_in why result) }
+    {
+        self.done().next_request(host, work, rows, text)
     }
 
     /// The request is answered; nothing passes.

@@ -12,8 +12,8 @@ returns-clause-goes c =
     let bytes = c.args.self.now.bytes.now in
     let w = world_of c.args.self.now in
     let n = c.min-n.result in
-    let waiting = c.bytes_of-waiting.result.now in
-    let is = c.bytes_of-waiting.ensures in
+    let waiting = c.slice-waiting.result.now in
+    let is = c.slice-waiting.ensures in
     received_some w c.args.process (pipe bytes row) c.in-Some.ensures.meaning c.args.area.now _ n _
     (omega arith) (omega arith) (omega (arith, ap length is))
     (c.play.ensures.value
