@@ -1,3 +1,4 @@
+pub mod Contexts
 pub mod Keys
 pub mod Limits
 pub mod Operations

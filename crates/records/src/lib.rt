@@ -1,6 +1,7 @@
 //! The records of a process table: keys, operations, and the eight places, as plain values.
 #![tactic(auto)]
 
+pub mod context;
 pub mod key;
 pub mod operation;
 pub mod record;
