@@ -1,19 +1,14 @@
 //! What a process is told of the content that it is given.
-ghost use Rattle.std.specs.Prelude.{◌≡◌, length, Decides};
+ghost use Rattle.std.specs.Prelude.{◌≡◌, Decides};
 ghost use Rattle.records.specs.Limits.{is_path, is_ref_name, IsPath, IsRefName};
+
+use crate::id::ObjectId;
 
 /// Whether a process may answer later.
 #[derive(Clone, Copy, Debug)]
 pub enum Delay {
     Allow,
     Forbid,
-}
-
-/// The id of an object.
-#[derive(Clone, Copy)]
-pub struct ObjectId {
-    pub bytes: [u8; 20],
-    ghost room: { length bytes ≡ 20 },
 }
 
 /// The path of a file, and what else is known of where its content comes from.

@@ -2,6 +2,7 @@
 #![tactic(auto)]
 
 pub mod context;
+pub mod id;
 pub mod key;
 pub mod operation;
 pub mod record;
