@@ -4,6 +4,7 @@
 pub mod context;
 pub mod id;
 pub mod key;
+pub mod names;
 pub mod operation;
 pub mod record;
 pub mod records;
