@@ -1,3 +1,5 @@
+pub mod Contexts
+pub mod Ids
 pub mod Keys
 pub mod Limits
 pub mod Operations

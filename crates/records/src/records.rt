@@ -1,5 +1,5 @@
 //! The table's records: eight places, changed by value.
-ghost use Rattle.std.specs.Prelude.{◌≡◌, ◌↔◌, [], length, Some, None, Option, IsTrue, IsErr, IsNone, IfSome, IfOk, ◌<◌, slice_index_or, slice_set, option_map};
+ghost use Rattle.std.specs.Prelude.{◌≡◌, ◌↔◌, [], length, replicate, Some, None, Option, IsTrue, IsErr, IsNone, IfSome, IfOk, ◌<◌, slice_index_or, slice_set, option_map};
 ghost use Rattle.std.specs.List.{list_any};
 ghost use Rattle.slices.specs.Answers.{told};
 ghost use Rattle.records.specs.Places.{Distinct, place_of, place_for, IsPlaceOf};
@@ -43,7 +43,8 @@ impl Records {
 
     /// No record.
     pub fn none() -> Records
-        ensures { held result.places ≡ [] }
+        ensures value { result.places ≡ replicate 8 None }
+        ensures law { held result.places ≡ [] }
     {
         Records { places: [None; 8] }
     }
