@@ -1,0 +1,5 @@
+//! What a client is told by a mirror.
+#![tactic(auto)]
+
+pub mod greeting;
+mod wanted;
