@@ -1,3 +1,4 @@
 mod Totals
 mod Seats
 mod Kept
+mod Steps
