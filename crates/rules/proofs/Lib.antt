@@ -2,3 +2,4 @@ mod Totals
 mod Seats
 mod Kept
 mod Steps
+mod Talks
