@@ -3,3 +3,5 @@ mod Seats
 mod Kept
 mod Steps
 mod Talks
+mod Limits
+mod Standing
