@@ -1,26 +1,25 @@
 -- What each send and each read of a talk keeps, the talk keeps.
-use Rattle.std.proofs.Common.{◌≡◌, ℕ, zero, suc, Bool, true, false, cond, List, [], ◌∷◌, ◌++◌, length, Some, None, Ok, Err, codes, Option, Result, sym, refl, ap, ◌∙◌, subst}
+use Rattle.std.proofs.Common.{◌≡◌, ℕ, zero, suc, Bool, true, false, cond, List, [], ◌∷◌, ◌++◌, length, Some, None, Ok, Err, Option, Result, refl, ap, ◌∙◌}
 use Rattle.packetline.specs.Packets.{Pkt, flush, delimiter, response_end, line, packet, Front, whole, bad, short, front}
 use Rattle.packetline.specs.Lines.{kind_of}
 use Rattle.packetline.specs.Text.{text_of}
 use Rattle.slices.specs.declared.name.Name.{Name}
 use Rattle.host.specs.declared.fault.Fault.{Fault}
 use Rattle.host.specs.declared.fault.LineFault.{LineFault}
-use Rattle.host.specs.Worlds.{Reply, Process, live, waiting_of, waiting_now, Pipe}
+use Rattle.host.specs.Worlds.{Reply, live, waiting_of, waiting_now, Pipe}
 use Rattle.std.specs.Prelude.{nat_le}
 use Rattle.host.specs.Acts.{refusal_of, pipe_after, sent_to}
-use Rattle.host.specs.Talk.{Event, took, refused, gave, noted, Wire, wire, Got, got, lost, then, sent_by, send, send_all, heard, hear, read, wanted, read_content, texted, text_in, read_text}
+use Rattle.host.specs.Talk.{took, refused, noted, Wire, wire, Got, got, lost, then, sent_by, send, send_all, heard, hear, read, wanted, read_content, texted, text_in, read_text}
 use Rattle.process.specs.declared.status.Status.{Status}
 use Rattle.process.specs.declared.status.Status.TheVariants.{Previous}
 use Rattle.process.specs.Gather.{Turn, goes, stops, turned, gather_in, gather}
 use Rattle.process.specs.Statuses.{status_in, noted_by, status_step, read_status}
 use Rattle.handshake.specs.Judged.{if_right, read_judged}
-use Rattle.handshake.specs.Handshakes.{hello, desired, welcomed, chosen, ended, with_line, names_turn, names_step, read_names, Shaken, shaken, names_of, asks, flush_then, version_then, welcome_then, handshake}
+use Rattle.handshake.specs.Handshakes.{hello, desired, welcomed, chosen, ended, with_line, names_turn, names_step, read_names, shaken, names_of, asks, flush_then, version_then, welcome_then, handshake}
 use Rattle.client.specs.Requests.{content_packets, first_status, as_first, status_then, content_then}
 use Rattle.client.specs.Listings.{list_request, lines_step, read_lines, lines_then, listing}
-use Rattle.client.specs.Results.{Piece, as_final, final_then, read_piece}
-use Rattle.rules.specs.Names.{desired_names}
-use Rattle.rules.specs.Steps.{exchange, greeting}
+use Rattle.client.specs.Results.{as_final, final_then, read_piece}
+use Rattle.rules.specs.Steps.{exchange}
 
 -- what holds of the process and the events after a talk that went through, and after one that was cut
 abbrev pub Always : {A : Type 0} → (A → Wire → Type 0) → (LineFault → Wire → Type 0) → Got A → Type 0

@@ -5,3 +5,5 @@ mod Steps
 mod Talks
 mod Limits
 mod Standing
+mod Keeping
+mod Standings

@@ -1,15 +1,14 @@
 -- What holds of a record and its process's story, and what one call more leaves of it.
-use Rattle.std.proofs.Common.{◌≡◌, ◌≢◌, ℕ, zero, suc, ◌+◌, ◌*◌, ◌<◌, ◌≤◌, Bool, true, false, cond, not, ◌&&◌, ◌||◌, eqb, List, [], ◌∷◌, ◌++◌, map, length, Some, None, Ok, Err, codes, Option, Result, sym, refl, ap, ◌∙◌, subst, arith}
+use Rattle.std.proofs.Common.{◌≡◌, ℕ, ◌+◌, ◌*◌, Bool, true, false, cond, not, ◌&&◌, ◌||◌, eqb, List, [], ◌∷◌, ◌++◌, Some, None, Option, sym, refl, ap, ◌∙◌, arith}
 use Rattle.std.specs.Prelude.{is_some}
 use Rattle.std.proofs.lemmas.List.{append_assoc, append-nil}
 use Rattle.std.proofs.lemmas.Bool.{and_parts}
-use Rattle.packetline.specs.Packets.{Pkt, flush, line, Decoded, decode, packets, all_sendable, flushes_of, flushes}
+use Rattle.packetline.specs.Packets.{Pkt, line, Decoded, decode, packets, all_sendable, flushes_of}
 use Rattle.packetline.proofs.Decoding.{decodes_sent}
-use Rattle.host.specs.declared.fault.Fault.{Fault}
 use Rattle.host.specs.declared.fault.Fault.TheVariants.{Closed, Broken, Other as other_fault}
 use Rattle.host.specs.declared.fault.LineFault.{LineFault}
 use Rattle.host.specs.declared.fault.LineFault.TheVariants.{Host, Packet, Marker, Text}
-use Rattle.host.specs.Talk.{Event, took, refused as not_taken, gave, noted, bytes_sent, bytes_given, Wire, wire, Got, got, lost}
+use Rattle.host.specs.Talk.{Event, bytes_sent, bytes_given}
 use Rattle.process.specs.declared.status.Status.{Status}
 use Rattle.process.specs.declared.status.Word.TheVariants.{Success, Delayed, Abort, Error, Other}
 use Rattle.process.specs.declared.status.Status.TheVariants.{Previous, Unset, Named}
@@ -26,13 +25,13 @@ use Rattle.records.specs.declared.operation.Operation.TheVariants.{Clean, Smudge
 use Rattle.records.specs.declared.record.Record.{Record}
 use Rattle.records.specs.Operations.{operation_place}
 use Rattle.rules.specs.Names.{can_do}
-use Rattle.rules.specs.Calls.{Asked, Call, apply, fetch, list, read, give_up, close_all}
+use Rattle.rules.specs.Calls.{Asked, Call, apply, fetch, list, read}
 use Rattle.rules.specs.Answers.{Answer, passed, delayed, result, payload, finished, paths, full, failed, unfinished, unasked, fault}
-use Rattle.rules.specs.Steps.{Fate, stays, leaves, Verdict, verdict, after_fault, after_exchange, delayed_if, never_delayed, listed, after_listing, after_final, after_piece, result_lost, seated}
-use Rattle.rules.specs.Stories.{Episode, episode, Story, all_given, all_sent, one_if, list_counts, is_settled, exchange_counts, result_counts, lists, exchanges, results, opened, open_after, open_result, open_count, is_fault, faulted, has_named, names_before, behind_flushes, status_from, flushes_before, status_of_call, is_abort, operation_of, same_operation, is_for, aborts, aborted, asks_for, stray_sends, stray_applies_in, stray_applies}
+use Rattle.rules.specs.Steps.{Verdict, after_fault, after_exchange, delayed_if, listed, after_listing, after_final, after_piece, seated}
+use Rattle.rules.specs.Stories.{episode, Story, all_given, all_sent, one_if, list_counts, is_settled, exchange_counts, result_counts, lists, exchanges, results, opened, open_after, open_result, open_count, is_fault, faulted, has_named, behind_flushes, status_from, flushes_before, status_of_call, is_abort, operation_of, same_operation, is_for, aborts, aborted, stray_applies_in, stray_applies}
 use Rattle.rules.specs.Rules.{Flushes}
 use Rattle.rules.proofs.Steps.{FateGood}
-use Rattle.rules.proofs.Talks.{Sofar, nothing, Cut, cut_of, Told, Ends, no_status, Pieced}
+use Rattle.rules.proofs.Talks.{Sofar, Cut, cut_of, Told, Ends, no_status, Pieced}
 use Rattle.rules.proofs.Limits.{sendable_append}
 
 -- all bytes are whole packets, with so many flushes; c is 2, or 0 before the handshake

@@ -1,14 +1,14 @@
 -- Every call leaves the invariant standing, so every list of calls does. What holds of a record and its process's story is left open: it is asked to be
 -- kept by each talk.
-use Rattle.std.proofs.Common.{◌≡◌, ◌≢◌, ℕ, zero, suc, ◌+◌, ◌<◌, ◌≤◌, Bool, true, false, cond, not, ◌&&◌, List, [], ◌∷◌, ◌++◌, map, length, Some, None, Ok, Err, codes, Option, Result, ◌⊎◌, inl, inr, sym, refl, ap, ◌∙◌, subst, arith}
-use Rattle.std.specs.Prelude.{unwrap_or, slice_index_or, slice_set, is_some, ◌==◌}
-use Rattle.std.specs.List.{count_by, list_any}
-use Rattle.std.proofs.lemmas.List.{append_assoc, append-nil, length-set, get_or-set_same, set-set, get_or_past}
-use Rattle.std.proofs.lemmas.Bool.{eqb-true, eq-eqb, ne_eqb}
+use Rattle.std.proofs.Common.{◌≡◌, ℕ, zero, suc, ◌<◌, Bool, true, false, cond, not, ◌&&◌, List, [], ◌∷◌, ◌++◌, map, length, Some, None, Ok, Err, codes, Option, Result, inl, inr, sym, refl, ap, ◌∙◌, subst, arith}
+use Rattle.std.specs.Prelude.{slice_set, is_some, ◌==◌}
+use Rattle.std.specs.List.{list_any}
+use Rattle.std.proofs.lemmas.List.{append_assoc, append-nil, get_or-set_same, set-set}
+use Rattle.std.proofs.lemmas.Bool.{eq-eqb, ne_eqb}
 use Rattle.packetline.specs.Packets.{Pkt}
 use Rattle.host.specs.declared.host.How.TheVariants.{Close}
 use Rattle.host.specs.declared.fault.LineFault.{LineFault}
-use Rattle.host.specs.Worlds.{Pipe, Process, gone, live, World, process, with_process}
+use Rattle.host.specs.Worlds.{Pipe, Process, gone, live, World, with_process}
 use Rattle.host.specs.Acts.{can_start}
 use Rattle.host.specs.Talk.{Event, bytes_given, Later, Wire, wire, Got, got, lost}
 use Rattle.process.specs.declared.status.Status.{Status}
@@ -27,10 +27,10 @@ use Rattle.rules.specs.Calls.{Asked, Call, apply, fetch, list, read, give_up, cl
 use Rattle.rules.specs.Answers.{Answer, passed, done, fault, refused}
 use Rattle.rules.specs.Steps.{asked_lines, request_for, exchange, Fate, stays, leaves, Verdict, verdict, after_fault, after_exchange, delayed_if, never_delayed, after_listing, counted, after_piece, result_lost, State, state, Deed, starts, talks, ends, Outcome, outcome, refuse, ended_as, ended, Seat, its_seat, new_seat, seated, settle_by, settle, conclude, line_to, apply_at, newcomer_record, started, after_handshake, greeting, first_of_all, has_free, begin, unless_reading, apply_to, fetch_from, list_from, read_at, read_from, give_up_at, closed, closings, close, act, step}
 use Rattle.rules.specs.Stories.{episode, Story, one_if}
-use Rattle.rules.specs.Lives.{Book, Life, life, with_episode, written, turn, run, is_open, Begins}
-use Rattle.rules.proofs.Totals.{total, In, Loses, of_key, of_process, found_in, found_none, its_lookup, none_held, none_in}
+use Rattle.rules.specs.Lives.{Book, Life, with_episode, written, turn, run, is_open, Begins}
+use Rattle.rules.proofs.Totals.{total, In, Loses, of_key, of_process, found_in, found_none, none_held, none_in}
 use Rattle.rules.proofs.Seats.{at, open_total, But, Inv, GoodAt, leave, Sits, sits_there, sits_new, count_open}
-use Rattle.rules.proofs.Kept.{Always, weaken, join, Kept, lives_steady, Lives, lives_all, exchange_kept, listing_kept, piece_kept, handshake_kept}
+use Rattle.rules.proofs.Kept.{Always, Kept, lives_steady, Lives, lives_all, exchange_kept, listing_kept, piece_kept, handshake_kept}
 
 -- a story written down at its process alone
 pub written_there : (b : Book) (p : ℕ) (c : Call) (es : List Event) (a : Answer) → with_episode p c es a b p ≡ episode c es a ∷ b p

@@ -1,28 +1,26 @@
 -- What a call's talk comes to, in packets: what was heard and said since its start, whole unless a fault cut it.
-use Rattle.std.proofs.Common.{◌≡◌, ◌≢◌, ℕ, zero, suc, ◌+◌, ◌*◌, ◌<◌, ◌≤◌, Bool, true, false, cond, not, ◌&&◌, ◌||◌, List, [], ◌∷◌, ◌++◌, map, length, Some, None, Ok, Err, codes, Option, Result, ◌⊎◌, inl, inr, sym, refl, ap, ◌∙◌, subst, arith, bytes_eq}
-use Rattle.std.proofs.lemmas.List.{append_assoc, append-nil}
+use Rattle.std.proofs.Common.{◌≡◌, ℕ, zero, suc, ◌+◌, ◌≤◌, true, ◌||◌, List, [], ◌∷◌, ◌++◌, map, length, Some, None, Ok, Err, codes, Result, ◌⊎◌, inl, inr, sym, refl, ap, ◌∙◌, subst, arith, bytes_eq}
+use Rattle.std.proofs.lemmas.List.{append_assoc}
 use Rattle.std.proofs.lemmas.Bool.{or_left, or_right}
 use Rattle.std.proofs.lemmas.Slice.Eq.{bytes_eq-Decides}
 use Rattle.slices.proofs.Searches.{first_is}
 use Rattle.slices.specs.Names.{name_bytes}
-use Rattle.packetline.specs.Packets.{Pkt, flush, delimiter, response_end, line, Decoded, decode, packets, flush_one, flushes_of}
+use Rattle.packetline.specs.Packets.{Pkt, flush, delimiter, response_end, line, Decoded, decode, packets, flushes_of}
 use Rattle.packetline.specs.Lines.{kind_of}
 use Rattle.packetline.specs.Text.{trim_end}
 use Rattle.host.specs.declared.fault.LineFault.{LineFault}
-use Rattle.host.specs.Talk.{Event, bytes_sent, bytes_given, Wire, wire, Got, got, lost}
+use Rattle.host.specs.Talk.{Event, bytes_sent, bytes_given, Wire, Got, got, lost}
 use Rattle.process.specs.declared.status.Status.{Status}
-use Rattle.process.specs.declared.status.Word.{Word}
-use Rattle.process.specs.declared.status.Word.TheVariants.{Success, Delayed, Abort, Error, Other}
 use Rattle.process.specs.declared.status.Status.TheVariants.{Previous, Unset, Named}
 use Rattle.process.specs.Given.{ReadsAs}
 use Rattle.process.specs.Masks.{holds, place_of}
-use Rattle.process.specs.Statuses.{status_in, told_by, after_lines, status_of, first, StatusLines}
-use Rattle.process.proofs.Passes.{Since, Until, Passed, Passes, decode_empty, decode_append, packets_append}
+use Rattle.process.specs.Statuses.{status_in, told_by, after_lines, first, StatusLines}
+use Rattle.process.proofs.Passes.{Since, Until, Passed, decode_empty, decode_append, packets_append}
 use Rattle.process.proofs.Tellings.{flushes_append, lines_flushes, one_flush}
 use Rattle.handshake.specs.Handshakes.{hello, desired, Shaken, NamedAt}
 use Rattle.handshake.proofs.Naming.{NamesIt, named_none, named_cases, mask_means}
-use Rattle.handshake.proofs.Shakes.{AgreedBy, Shook, Few, handshake_passes}
-use Rattle.client.specs.Requests.{content_packets, content_then}
+use Rattle.handshake.proofs.Shakes.{Shook, Few, handshake_passes}
+use Rattle.client.specs.Requests.{content_packets}
 use Rattle.client.specs.Listings.{list_request, listing}
 use Rattle.client.specs.Results.{Piece, payload, final, read_piece}
 use Rattle.client.proofs.Invokes.{Exchanged, NotExchanged, exchange_passes}
@@ -31,7 +29,7 @@ use Rattle.client.proofs.Pieces.{PiecePassed, NoPiece, piece_passes}
 use Rattle.records.specs.declared.operation.Operation.{Operation}
 use Rattle.records.specs.declared.operation.Operation.TheVariants.{Clean, Smudge}
 use Rattle.records.specs.Operations.{operation_name, operation_place}
-use Rattle.rules.specs.Names.{clean_name, smudge_name, desired_names}
+use Rattle.rules.specs.Names.{clean_name, desired_names}
 use Rattle.rules.specs.Steps.{exchange, greeting}
 use Rattle.rules.specs.Stories.{names_it, names_before, behind_flushes, status_from, is_abort}
 use Rattle.rules.proofs.Kept.{Always, weaken}

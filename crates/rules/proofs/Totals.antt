@@ -1,13 +1,13 @@
 -- What places hold, counted, and what a change of the places does to every count.
-use Rattle.std.proofs.Common.{◌≡◌, ◌≢◌, ℕ, zero, suc, ◌+◌, ◌<◌, ◌≤◌, Bool, true, false, cond, List, [], ◌∷◌, ◌++◌, map, length, Some, None, Option, ◌⊎◌, inl, inr, sym, refl, ap, ◌∙◌, subst, arith, bytes_eq}
-use Rattle.std.specs.Prelude.{if◌then◌else◌, option_map, option_to_list, flat_map, find, is_some, is_none, unwrap_or, slice_index_or, ◌==◌}
-use Rattle.std.specs.List.{All, count_by, list_any, sum_by}
+use Rattle.std.proofs.Common.{◌≡◌, ℕ, zero, suc, ◌+◌, ◌≤◌, Bool, true, false, cond, List, [], ◌∷◌, length, Some, None, Option, ◌⊎◌, inl, inr, sym, refl, ap, ◌∙◌, subst, arith, bytes_eq}
+use Rattle.std.specs.Prelude.{if◌then◌else◌, option_map, find, unwrap_or, ◌==◌}
+use Rattle.std.specs.List.{All, count_by}
 use Rattle.std.proofs.lemmas.List.Sums.{sum_by-cons}
 use Rattle.std.proofs.lemmas.Slice.Eq.{bytes_eq-Decides}
 use Rattle.records.specs.declared.key.Key.{Key}
 use Rattle.records.specs.declared.record.Record.{Record}
 use Rattle.records.specs.Keys.{key_bytes, same_key}
-use Rattle.records.specs.Places.{Place, holds_key}
+use Rattle.records.specs.Places.{Place}
 use Rattle.records.specs.Records.{held, lookup, without, changed, put_first_free}
 use Rattle.rules.specs.Stories.{one_if}
 use Rattle.rules.specs.Steps.{has_free}

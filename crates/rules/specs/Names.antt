@@ -1,5 +1,5 @@
 -- The names that a table desires of a process: the operations, and delay.
-use Rattle.std.specs.Prelude.{ℕ, Bool, List, [], ◌∷◌, ◌++◌, codes, replicate, refl}
+use Rattle.std.specs.Prelude.{Bool, List, [], ◌∷◌, ◌++◌, codes, replicate, refl}
 use Rattle.std.proofs.Common.{arith}
 use Rattle.slices.specs.declared.name.Name.{Name}
 use Rattle.process.specs.declared.capabilities.Capabilities.{Capabilities}

@@ -1,10 +1,9 @@
 -- What a table over a host makes of each call: its answer, the table and the host's world after it, and what it did with the host.
-use Rattle.std.specs.Prelude.{ℕ, ◌/◌, ◌%◌, Bool, true, false, cond, not, ◌&&◌, List, [], ◌∷◌, ◌++◌, map, length, Some, None, Ok, Err, codes, Option, Result, is_none, nat_lt, unwrap_or, slice_set}
+use Rattle.std.specs.Prelude.{ℕ, ◌/◌, ◌%◌, Bool, cond, not, ◌&&◌, List, [], ◌∷◌, ◌++◌, map, length, Some, None, Ok, Err, codes, Option, Result, is_none, nat_lt, unwrap_or, slice_set}
 use Rattle.std.specs.List.{list_any}
 use Rattle.packetline.specs.Packets.{Pkt, flush, line_pkt, hex_char}
 use Rattle.host.specs.declared.host.How.{How}
 use Rattle.host.specs.declared.host.How.TheVariants.{Close, Kill}
-use Rattle.host.specs.declared.fault.Fault.{Fault}
 use Rattle.host.specs.declared.fault.Fault.TheVariants.{Closed, Broken, Other as other_fault}
 use Rattle.host.specs.declared.fault.LineFault.{LineFault}
 use Rattle.host.specs.declared.fault.LineFault.TheVariants.{Host, Packet, Marker, Text}

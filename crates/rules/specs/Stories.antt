@@ -6,9 +6,9 @@ use Rattle.packetline.specs.Packets.{Pkt, flush, delimiter, response_end, line, 
 use Rattle.packetline.specs.Lines.{kind_of}
 use Rattle.packetline.specs.Text.{trim_end}
 use Rattle.host.specs.Talk.{Event, took, refused as not_taken, gave, noted, bytes_sent, bytes_given}
-use Rattle.process.specs.declared.status.Word.TheVariants.{Success, Delayed, Abort, Error, Other}
+use Rattle.process.specs.declared.status.Word.TheVariants.{Abort}
 use Rattle.process.specs.declared.status.Status.{Status}
-use Rattle.process.specs.declared.status.Status.TheVariants.{Previous, Unset, Named}
+use Rattle.process.specs.declared.status.Status.TheVariants.{Previous, Named}
 use Rattle.process.specs.Statuses.{status_in, told_by}
 use Rattle.client.specs.Requests.{command_line}
 use Rattle.records.specs.declared.operation.Operation.{Operation}

@@ -1,4 +1,8 @@
-//! What is proved of a table's life, until the table's calls carry it.
+//! What is proved of a table's life. Nothing of it is public yet: the table's public call will carry it.
+ghost use Rattle.rules.specs.Rules.{RulesStand};
 
-/// Nothing yet.
-fn nothing_yet() {}
+/// The rules stand after every list of calls.
+// Private, since it says nothing of code yet: the call that works a list of calls will promise it.
+fn rules_stand()
+    ensures { RulesStand }
+{}
