@@ -1,5 +1,5 @@
 -- What a table's records are to who looks for one, and what a change of one does to the places.
-use Rattle.std.specs.Prelude.{◌≡◌, ◌≢◌, ℕ, Bool, true, false, ◌&&◌, ◌==◌, ◌↔◌, if◌then◌else◌, List, [], ◌∷◌, map, length, Some, None, Ok, Err, Option, Result, is_some, IsNone, IfSome, All, Contains, find, option_map, option_to_list, flat_map, ok_or}
+use Rattle.std.specs.Prelude.{◌≡◌, ◌≢◌, ℕ, Bool, ◌&&◌, ◌==◌, ◌↔◌, if◌then◌else◌, List, [], ◌∷◌, map, Some, None, Ok, Option, Result, is_some, IsSome, IsNone, IfSome, All, Contains, find, option_map, option_to_list, flat_map, ok_or}
 use Rattle.process.specs.declared.capabilities.Capabilities.{Capabilities}
 use Rattle.records.specs.declared.key.Key.{Key}
 use Rattle.records.specs.declared.operation.Operation.{Operation}
@@ -15,11 +15,9 @@ held places = flat_map option_to_list places
 abbrev pub lookup : List Place → Key → Option Record
 lookup places k = find (λ r. same_key r.key k) (held places)
 
--- in words: it is held and has the key, and every held record with the key is it; there is none exactly if none has it
-pub record IsRecordOf (places : List Place) (k : Key) (answer : Option Record) : Type 0 where
-  pub is_held : IfSome answer (Contains (held places))
-  pub of_key : IfSome answer (λ r. key_bytes r.key ≡ key_bytes k)
-  pub only : All (λ r. key_bytes r.key ≡ key_bytes k → answer ≡ Some r) (held places)
+-- in words: the answer is a record exactly if that record is held and has the key
+abbrev pub IsRecordOf : List Place → Key → Option Record → Type 0
+IsRecordOf places k answer = (r : Record) → (answer ≡ Some r) ↔ (Contains (held places) r × (key_bytes r.key ≡ key_bytes k))
 
 -- whether the result of a record's process is being read
 abbrev pub is_reading : Record → Bool
@@ -28,6 +26,11 @@ is_reading r = is_some r.reading
 -- the first reading record with a process number
 abbrev pub reading_by : List Place → ℕ → Option Record
 reading_by places n = find (λ r. r.process == n && is_reading r) (held places)
+
+-- in words: such a record is held, or there is none
+pub record IsReadingBy (places : List Place) (n : ℕ) (answer : Option Record) : Type 0 where
+  pub is_one : IfSome answer (λ r. Contains (held places) r × (r.process ≡ n) × IsSome r.reading)
+  pub none : IsNone answer → All (λ r. r.process ≡ n → IsNone r.reading) (held places)
 
 -- Changes
 

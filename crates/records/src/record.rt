@@ -18,6 +18,8 @@ pub struct Record {
 }
 
 impl Record {
+    ghost use Rattle.records.specs.Records.{with_reading, with_capabilities};
+
     /// A record with this key, to look for another one.
     pub(crate) fn probe(key: Key) -> Record
         ensures { result.key ≡ key }
@@ -28,6 +30,23 @@ impl Record {
             version: 0,
             capabilities: Capabilities::none(),
             reading: None,
+        }
+    }
+
+    /// Reading for an operation, or no more.
+    pub(crate) fn with_reading(self, reading: Option<Operation>) -> Record
+        ensures { result ≡ with_reading reading self }
+    {
+        Record { reading, ..self }
+    }
+
+    /// Of a process that can do this.
+    pub(crate) fn with_capabilities(self, capabilities: Capabilities) -> Record
+        ensures { result ≡ with_capabilities capabilities self }
+    {
+        Record {
+            capabilities,
+            ..self
         }
     }
 }
