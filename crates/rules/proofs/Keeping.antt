@@ -16,7 +16,8 @@ use Rattle.records.specs.declared.operation.Operation.{Operation}
 use Rattle.records.specs.declared.operation.Operation.TheVariants.{Clean, Smudge}
 use Rattle.records.specs.declared.record.Record.{Record}
 use Rattle.rules.specs.Names.{desired_names, can_do, can_delay}
-use Rattle.rules.specs.Calls.{Asked, Call, apply, fetch, list, read, asks_within, is_path}
+use Rattle.records.specs.Limits.{is_path}
+use Rattle.rules.specs.Calls.{Asked, Call, apply, fetch, list, read, asks_within, may_delay}
 use Rattle.rules.specs.Answers.{fault}
 use Rattle.rules.specs.Steps.{asked_lines, request_for, exchange, after_fault, after_exchange, delayed_if, never_delayed, after_listing, counted, after_piece, result_lost, newcomer_record, greeting}
 use Rattle.rules.specs.Stories.{Story, all_given, one_if, has_named, names_before, flushes_before, aborted, asks_for, stray_sends}
@@ -62,10 +63,10 @@ module _ (r : Record) (h : Story) (key : Key) (op : Operation) (asked : Asked) w
 
   module _ (n c : ℕ) (v : Wire) (within : asks_within asked ≡ true) (g : Ready r h (apply key op asked) n c v.events) (f : Firm r h (apply key op asked) v.events) where
     delays : Bool
-    delays = asked.may_delay && can_delay r.capabilities
+    delays = may_delay asked.delay && can_delay r.capabilities
 
     abbrev Lines : Bool → List Pkt
-    Lines d = request_for op asked.path (asked_lines asked d)
+    Lines d = request_for op asked.rela_path (asked_lines asked d)
 
     apply_goes : (d : Bool) → can_do op r.capabilities ≡ true
         → TalkGood Good r h (apply key op asked) (exchange (Lines d) asked.content v) (λ s _. after_exchange r.process op r.capabilities.mask (delayed_if d r.capabilities.mask) s) (after_fault r.capabilities.mask)
@@ -86,7 +87,7 @@ module _ (r : Record) (h : Story) (key : Key) (op : Operation) (asked : Asked) w
         exchange_fault r h op (apply key op asked) n c v.events g (applying key op asked h) (Lines d ++ content_packets asked.content) (apply_sendable op asked d within) (apply_flushes op asked d) u.events p.1 y p.0)
 
     apply_good : ApplyGood Good r h key op asked v
-    apply_good = (λ can. apply_goes (asked.may_delay && can_delay r.capabilities) can, λ e. passed_good r h key op asked n c v.events g f)
+    apply_good = (λ can. apply_goes (may_delay asked.delay && can_delay r.capabilities) can, λ e. passed_good r h key op asked n c v.events g f)
 
 -- a known process that is not reading
 before_later : (key : Key) (op : Operation) (asked : Asked) (h : Story) → begun h ≡ true → flushes_before (apply key op asked) h ≡ 0

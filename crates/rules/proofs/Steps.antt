@@ -23,7 +23,8 @@ use Rattle.records.specs.Keys.{key_bytes, same_key}
 use Rattle.records.specs.Places.{Place}
 use Rattle.records.specs.Records.{held, lookup, is_reading, reading_by, without}
 use Rattle.rules.specs.Names.{can_do, can_delay, desired_names}
-use Rattle.rules.specs.Calls.{Asked, Call, apply, fetch, list, read, give_up, close_all, asks_within, is_path, is_within, needs_areas, Turn}
+use Rattle.records.specs.Limits.{is_path}
+use Rattle.rules.specs.Calls.{Asked, Call, apply, fetch, list, read, give_up, close_all, asks_within, may_delay, is_within, needs_areas, Turn}
 use Rattle.rules.specs.Answers.{Answer, passed, done, fault, refused}
 use Rattle.rules.specs.Steps.{asked_lines, request_for, exchange, Fate, stays, leaves, Verdict, verdict, after_fault, after_exchange, delayed_if, never_delayed, after_listing, counted, after_piece, result_lost, State, state, Deed, starts, talks, ends, Outcome, outcome, refuse, ended_as, ended, Seat, its_seat, new_seat, seated, settle_by, settle, conclude, line_to, apply_at, newcomer_record, started, after_handshake, greeting, first_of_all, has_free, begin, unless_reading, apply_to, fetch_from, list_from, read_at, read_from, give_up_at, closed, closings, close, act, step}
 use Rattle.rules.specs.Stories.{episode, Story, one_if}
@@ -52,10 +53,10 @@ written_closings c a (r ∷ rs) ds b =
     ap (λ xs. written c a xs b) (append_assoc (closings rs) (ends r.process Close ∷ []) ds) ∙ written_closings c a rs (ends r.process Close ∷ ds) b
 
 abbrev apply_exchange : Record → Operation → Asked → Wire → Got Status
-apply_exchange r op a v = exchange (request_for op a.path (asked_lines a (a.may_delay && can_delay r.capabilities))) a.content v
+apply_exchange r op a v = exchange (request_for op a.rela_path (asked_lines a (may_delay a.delay && can_delay r.capabilities))) a.content v
 
 abbrev apply_right : Record → Operation → Asked → Status → Wire → Verdict
-apply_right r op a s v = after_exchange r.process op r.capabilities.mask (delayed_if (a.may_delay && can_delay r.capabilities) r.capabilities.mask) s
+apply_right r op a s v = after_exchange r.process op r.capabilities.mask (delayed_if (may_delay a.delay && can_delay r.capabilities) r.capabilities.mask) s
 
 module _ (G : Record → Story → Type 0) where
   abbrev Holds : State → Book → Type 0
@@ -80,8 +81,8 @@ module _ (G : Record → Story → Type 0) where
   abbrev pub ApplyGood : Record → Story → Key → Operation → Asked → Wire → Type 0
   ApplyGood r h k op a v =
       (can_do op r.capabilities ≡ true
-      → TalkGood r h (apply k op a) (exchange (request_for op a.path (asked_lines a (a.may_delay && can_delay r.capabilities))) a.content v)
-      (λ s _. after_exchange r.process op r.capabilities.mask (delayed_if (a.may_delay && can_delay r.capabilities) r.capabilities.mask) s) (after_fault r.capabilities.mask))
+      → TalkGood r h (apply k op a) (exchange (request_for op a.rela_path (asked_lines a (may_delay a.delay && can_delay r.capabilities))) a.content v)
+      (λ s _. after_exchange r.process op r.capabilities.mask (delayed_if (may_delay a.delay && can_delay r.capabilities) r.capabilities.mask) s) (after_fault r.capabilities.mask))
       × (can_do op r.capabilities ≡ false → G (seated r r.capabilities.mask r.reading) (episode (apply k op a) v.events passed ∷ h))
 
   abbrev pub GreetGood : Key → ℕ → Operation → Asked → Result Shaken ℕ → Wire → Type 0
@@ -133,7 +134,7 @@ module _ (G : Record → Story → Type 0) where
           (settle t w seat v (verdict passed (stays seat.of.capabilities.mask seat.of.reading))))
       go true e =
           conclude_stands t w b (apply k op a) seat (apply_exchange seat.of op a v) (apply_right seat.of op a) (after_fault seat.of.capabilities.mask) s
-          (exchange_lives (request_for op a.path (asked_lines a (a.may_delay && can_delay seat.of.capabilities))) a.content v l) (g.0 e)
+          (exchange_lives (request_for op a.rela_path (asked_lines a (may_delay a.delay && can_delay seat.of.capabilities))) a.content v l) (g.0 e)
       go false e = settle_stands t w b (apply k op a) seat v passed (stays seat.of.capabilities.mask seat.of.reading) s l (g.1 e)
 
   -- a new process

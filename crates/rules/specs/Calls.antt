@@ -1,18 +1,27 @@
 -- The calls of a table, with all that a caller says in one, and what a host leaves free in it.
-use Rattle.std.specs.Prelude.{ℕ, Bool, true, false, ◌&&◌, List, length, Some, None, Option, nat_le}
+use Rattle.std.specs.Prelude.{ℕ, Bool, true, false, ◌&&◌, List, Option}
+use Rattle.std.specs.Option.{option_map_or}
 use Rattle.host.specs.Worlds.{Pipe}
 use Rattle.host.specs.Talk.{Later}
+use Rattle.records.specs.declared.context.Delay.{Delay}
+use Rattle.records.specs.declared.context.Delay.TheVariants.{Allow, Forbid}
+use Rattle.records.specs.declared.id.ObjectId.{ObjectId}
 use Rattle.records.specs.declared.key.Key.{Key}
 use Rattle.records.specs.declared.operation.Operation.{Operation}
+use Rattle.records.specs.Limits.{is_path, is_ref_name}
 
--- what an apply asks for: a path, where it is known from, whether the answer may be delayed, and the content
+-- what an apply asks for: a path, what is known of where its content comes from, whether the process may answer later, and the content
 pub record Asked : Type 0 where
-  pub path : List ℕ
-  pub reference : Option (List ℕ)
-  pub treeish : Option (List ℕ)
-  pub blob : Option (List ℕ)
-  pub may_delay : Bool
+  pub rela_path : List ℕ
+  pub ref_name : Option (List ℕ)
+  pub treeish : Option ObjectId
+  pub blob : Option ObjectId
+  pub delay : Delay
   pub content : List ℕ
+
+abbrev pub may_delay : Delay → Bool
+may_delay Allow = true
+may_delay Forbid = false
 
 pub data Call : Type 0 where
   apply : Key → Operation → Asked → Call
@@ -25,21 +34,9 @@ pub data Call : Type 0 where
   give_up : ℕ → Call
   close_all : Call
 
--- Limits: a path has 1 to 4,096 bytes, a reference 1 to 1,024, an id 20.
-
-abbrev pub has_length : ℕ → ℕ → List ℕ → Bool
-has_length low high text = nat_le low (length text) && nat_le (length text) high
-
-abbrev pub is_path : List ℕ → Bool
-is_path text = has_length 1 4096 text
-
-abbrev pub if_given : ℕ → ℕ → Option (List ℕ) → Bool
-if_given low high None = true
-if_given low high (Some text) = has_length low high text
-
--- what an apply may ask
+-- what an apply may ask; ids are such by their type
 abbrev pub asks_within : Asked → Bool
-asks_within a = is_path a.path && (if_given 1 1024 a.reference && (if_given 20 20 a.treeish && if_given 20 20 a.blob))
+asks_within a = is_path a.rela_path && option_map_or is_ref_name a.ref_name true
 
 -- a call whose arguments are within their limits; a key is one by its type
 abbrev pub is_within : Call → Bool

@@ -1,7 +1,7 @@
 -- What a table over a host makes of each call: its answer, the table and the host's world after it, and what it did with the host.
-use Rattle.std.specs.Prelude.{ℕ, ◌/◌, ◌%◌, Bool, cond, not, ◌&&◌, List, [], ◌∷◌, ◌++◌, map, length, Some, None, Ok, Err, codes, Option, Result, is_none, nat_lt, unwrap_or, slice_set}
+use Rattle.std.specs.Prelude.{ℕ, Bool, cond, not, ◌&&◌, List, [], ◌∷◌, ◌++◌, map, length, Some, None, Ok, Err, codes, Option, Result, is_none, nat_lt, unwrap_or, slice_set}
 use Rattle.std.specs.List.{list_any}
-use Rattle.packetline.specs.Packets.{Pkt, flush, line_pkt, hex_char}
+use Rattle.packetline.specs.Packets.{Pkt, flush, line_pkt}
 use Rattle.host.specs.declared.host.How.{How}
 use Rattle.host.specs.declared.host.How.TheVariants.{Close, Kill}
 use Rattle.host.specs.declared.fault.Fault.TheVariants.{Closed, Broken, Other as other_fault}
@@ -23,20 +23,17 @@ use Rattle.process.specs.declared.capabilities.Capabilities.{Capabilities}
 use Rattle.records.specs.declared.key.Key.{Key}
 use Rattle.records.specs.declared.operation.Operation.{Operation}
 use Rattle.records.specs.declared.record.Record.{Record}
+use Rattle.records.specs.declared.id.ObjectId.{ObjectId}
+use Rattle.records.specs.Ids.{id_digits}
 use Rattle.records.specs.Keys.{key_bytes}
 use Rattle.records.specs.Operations.{operation_name, operation_place}
 use Rattle.records.specs.Places.{Place}
 use Rattle.records.specs.Records.{held, lookup, is_reading, reading_by, without, changed, with_reading, with_capabilities, put_first_free}
 use Rattle.rules.specs.Names.{desired_names, can_do, can_delay}
-use Rattle.rules.specs.Calls.{Asked, Call, apply, fetch, list, read, give_up, close_all, is_within, needs_areas, Turn}
+use Rattle.rules.specs.Calls.{Asked, may_delay, Call, apply, fetch, list, read, give_up, close_all, is_within, needs_areas, Turn}
 use Rattle.rules.specs.Answers.{Answer, passed, delayed, result, payload, finished, paths, full, done, failed, unfinished, unasked, fault, refused}
 
 -- What is said
-
--- bytes in hexadecimal, two digits for each
-abbrev pub hexadecimal : List ℕ → List ℕ
-hexadecimal [] = []
-hexadecimal (b ∷ bs) = hex_char (b / 16) ∷ hex_char (b % 16) ∷ hexadecimal bs
 
 -- a line `key=value`
 abbrev pub pair_line : List ℕ → List ℕ → Pkt
@@ -47,18 +44,18 @@ abbrev pub line_if : List ℕ → Option (List ℕ) → List Pkt
 line_if key None = []
 line_if key (Some value) = pair_line key value ∷ []
 
-abbrev pub in_hexadecimal : Option (List ℕ) → Option (List ℕ)
-in_hexadecimal None = None
-in_hexadecimal (Some id) = Some (hexadecimal id)
+abbrev pub digits_of : Option ObjectId → Option (List ℕ)
+digits_of None = None
+digits_of (Some id) = Some (id_digits id.bytes)
 
 -- a command for a path, lines more, and a flush
 abbrev pub request_for : Operation → List ℕ → List Pkt → List Pkt
 request_for op path more = command_line (operation_name op) ∷ pair_line (codes "pathname") path ∷ (more ++ flush ∷ [])
 
--- where the path is known from, ids in hexadecimal, and whether the answer may be delayed
+-- what is known of where the content comes from, ids by their digits, and whether the process may answer later
 abbrev pub asked_lines : Asked → Bool → List Pkt
 asked_lines a delays =
-    line_if (codes "ref") a.reference ++ (line_if (codes "treeish") (in_hexadecimal a.treeish) ++ (line_if (codes "blob") (in_hexadecimal a.blob)
+    line_if (codes "ref") a.ref_name ++ (line_if (codes "treeish") (digits_of a.treeish) ++ (line_if (codes "blob") (digits_of a.blob)
     ++ cond delays (pair_line (codes "can-delay") (codes "1") ∷ []) []))
 
 -- lines and their flush, content and its flush; then a status
@@ -225,9 +222,9 @@ line_to t w r = wire (process w r.process) t.later []
 abbrev pub apply_at : Turn → World → Seat → Wire → Operation → Asked → Outcome
 apply_at t w seat v op a =
     let c : Capabilities = seat.of.capabilities in
-    let delays : Bool = a.may_delay && can_delay c in
+    let delays : Bool = may_delay a.delay && can_delay c in
     cond (can_do op c)
-    (conclude t w seat (exchange (request_for op a.path (asked_lines a delays)) a.content v) (λ s _. after_exchange seat.of.process op c.mask (delayed_if delays c.mask) s) (after_fault c.mask))
+    (conclude t w seat (exchange (request_for op a.rela_path (asked_lines a delays)) a.content v) (λ s _. after_exchange seat.of.process op c.mask (delayed_if delays c.mask) s) (after_fault c.mask))
     (settle t w seat v (verdict passed (stays c.mask seat.of.reading)))
 
 -- a record that is not reading yet
