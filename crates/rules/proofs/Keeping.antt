@@ -42,7 +42,7 @@ module _ (r : Record) (h : Story) (key : Key) (op : Operation) (asked : Asked) w
 
   firm_steady : Steady Firmly
   firm_steady = record {
-    gives = λ b rest v f. record {
+    gives = λ b rest v w f. record {
       naming = λ o t x. ap (λ xs. has_named o (all_given h ++ xs)) (append_assoc (bytes_given v.events) b x) ∙ f.naming o t (b ++ x);
       stray_none = f.stray_none;
     };
@@ -51,7 +51,7 @@ module _ (r : Record) (h : Story) (key : Key) (op : Operation) (asked : Asked) w
   }
 
   firm_takes : can_do op r.capabilities ≡ true → aborted op h ≡ false → (b : List ℕ) → Takes Firmly b
-  firm_takes t u b v f = record {
+  firm_takes t u b v o f = record {
     naming = f.naming;
     stray_none =
         let named : has_named op (all_given h ++ bytes_given v.events) ≡ true = ap (λ xs. has_named op (all_given h ++ xs)) (sym (append-nil (bytes_given v.events))) ∙ f.naming op t [] in
@@ -188,10 +188,10 @@ abbrev Unstray : Operation → Wire → Type 0
 Unstray op v = stray_sends op v.events [] ≡ 0
 
 unstray_steady : (op : Operation) → Steady (Unstray op)
-unstray_steady op = record { gives = λ b rest v e. e; notes = λ s v e. e; refuses = λ b v e. e }
+unstray_steady op = record { gives = λ b rest v w e. e; notes = λ s v e. e; refuses = λ b v e. e }
 
 other_takes : (op : Operation) (b : List ℕ) → asks_for op b ≡ false → Takes (Unstray op) b
-other_takes op b e v z = ap (λ t. one_if (t && not (has_named op ([] ++ bytes_given v.events) && not false)) + stray_sends op v.events []) e ∙ (let y : stray_sends op v.events [] ≡ 0 = z in omega arith)
+other_takes op b e v o z = ap (λ t. one_if (t && not (has_named op ([] ++ bytes_given v.events) && not false)) + stray_sends op v.events []) e ∙ (let y : stray_sends op v.events [] ≡ 0 = z in omega arith)
 
 abbrev none_asks : Operation → List Pkt → Bool
 none_asks op [] = true

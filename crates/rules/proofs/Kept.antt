@@ -1,15 +1,19 @@
 -- What each send and each read of a talk keeps, the talk keeps.
-use Rattle.std.proofs.Common.{◌≡◌, ℕ, zero, suc, Bool, true, false, cond, List, [], ◌∷◌, ◌++◌, length, Some, None, Ok, Err, Option, Result, refl, ap, ◌∙◌}
+use Rattle.std.proofs.Common.{◌≡◌, ℕ, zero, suc, Bool, true, false, cond, List, [], ◌∷◌, ◌++◌, length, Some, None, Ok, Err, Option, Result, sym, subst, drop, refl, ap, ◌∙◌, arith}
+use Rattle.std.proofs.lemmas.List.{append_assoc, append-nil, drop_at}
+use Rattle.packetline.proofs.Exact.{reads_sent}
+use Rattle.process.proofs.Passes.{PartedAt, parted_at}
 use Rattle.packetline.specs.Packets.{Pkt, flush, delimiter, response_end, line, packet, Front, whole, bad, short, front}
 use Rattle.packetline.specs.Lines.{kind_of}
 use Rattle.packetline.specs.Text.{text_of}
 use Rattle.slices.specs.declared.name.Name.{Name}
 use Rattle.host.specs.declared.fault.Fault.{Fault}
 use Rattle.host.specs.declared.fault.LineFault.{LineFault}
-use Rattle.host.specs.Worlds.{Reply, live, waiting_of, waiting_now, Pipe}
+use Rattle.host.specs.Faults.{snag_fault}
+use Rattle.host.specs.Worlds.{Reply, reply_of, Process, live, waiting_of, waiting_now, less, Pipe}
 use Rattle.std.specs.Prelude.{nat_le}
-use Rattle.host.specs.Acts.{refusal_of, pipe_after, sent_to}
-use Rattle.host.specs.Talk.{took, refused, noted, Wire, wire, Got, got, lost, then, sent_by, send, send_all, heard, hear, read, wanted, read_content, texted, text_in, read_text}
+use Rattle.host.specs.Acts.{some_wait, refusal_of, pipe_after, sent_to}
+use Rattle.host.specs.Talk.{took, refused, noted, bytes_given, Later, Wire, wire, Got, got, lost, then, sent_by, send, send_all, heard, hear, read, wanted, read_content, texted, text_in, read_text}
 use Rattle.process.specs.declared.status.Status.{Status}
 use Rattle.process.specs.declared.status.Status.TheVariants.{Previous}
 use Rattle.process.specs.Gather.{Turn, goes, stops, turned, gather_in, gather}
@@ -19,7 +23,7 @@ use Rattle.handshake.specs.Handshakes.{hello, desired, welcomed, chosen, ended, 
 use Rattle.client.specs.Requests.{content_packets, first_status, as_first, status_then, content_then}
 use Rattle.client.specs.Listings.{list_request, lines_step, read_lines, lines_then, listing}
 use Rattle.client.specs.Results.{as_final, final_then, read_piece}
-use Rattle.rules.specs.Steps.{exchange}
+use Rattle.rules.specs.Steps.{exchange, reply_to, course}
 
 -- what holds of the process and the events after a talk that went through, and after one that was cut
 abbrev pub Always : {A : Type 0} → (A → Wire → Type 0) → (LineFault → Wire → Type 0) → Got A → Type 0
@@ -46,7 +50,7 @@ Kept J g = Always (λ _ v. J v) (λ _ v. J v) g
 
 -- a packet that is taken
 abbrev pub Takes : (Wire → Type 0) → List ℕ → Type 0
-Takes J b = (v : Wire) → J v → J (wire (sent_to v.end b (v.later 0)) (λ n. v.later (suc n)) (took b ∷ v.events))
+Takes J b = (v : Wire) → refusal_of v.end (length b) ≡ Ok tt → J v → J (wire (sent_to v.end b (v.later 0)) (λ n. v.later (suc n)) (took b ∷ v.events))
 
 abbrev pub AllTake : (Wire → Type 0) → List Pkt → Type 0
 AllTake J [] = Unit {0}
@@ -54,7 +58,7 @@ AllTake J (p ∷ ps) = Takes J (packet p) × AllTake J ps
 
 -- what is kept whatever is heard, noted or refused
 pub record Steady (J : Wire → Type 0) : Type 0 where
-  pub gives : (b rest : List ℕ) (v : Wire) → J v → J (heard b rest v)
+  pub gives : (b rest : List ℕ) (v : Wire) → waiting_of v.end ≡ b ++ rest → J v → J (heard b rest v)
   pub notes : (s : List ℕ) (v : Wire) → J v → J (wire v.end v.later (noted s ∷ v.events))
   pub refuses : (b : List ℕ) (v : Wire) → J v → J (wire v.end v.later (refused b ∷ v.events))
 
@@ -62,22 +66,22 @@ module _ (J : Wire → Type 0) (k : Steady J) where
   pub then_kept : {A B : Type 0} (g : Got A) (f : A → Wire → Got B) → Kept J g → ((a : A) (v : Wire) → J v → Kept J (f a v)) → Kept J (then g f)
   then_kept g f h on = then_always (λ _ v. J v) (λ _ v. J v) (λ _ v. J v) g f h on
 
-  sent_kept : (b : List ℕ) → Takes J b → (v : Wire) → J v → (r : Result (Unit {0}) Fault) → Kept J (sent_by r b v)
-  sent_kept b t v j (Ok u) = t v j
-  sent_kept b t v j (Err f) = k.refuses b v j
+  sent_kept : (b : List ℕ) → Takes J b → (v : Wire) → J v → (r : Result (Unit {0}) Fault) → refusal_of v.end (length b) ≡ r → Kept J (sent_by r b v)
+  sent_kept b t v j (Ok u) e = t v e j
+  sent_kept b t v j (Err f) e = k.refuses b v j
 
   pub send_all_kept : (ps : List Pkt) → AllTake J ps → (v : Wire) → J v → Kept J (send_all ps v)
   send_all_kept [] t v j = j
   send_all_kept (p ∷ ps) t v j =
-      then_kept (send p v) (λ _ u. send_all ps u) (sent_kept (packet p) t.0 v j (refusal_of v.end (length (packet p)))) (λ _ u j'. send_all_kept ps t.1 u j')
+      then_kept (send p v) (λ _ u. send_all ps u) (sent_kept (packet p) t.0 v j (refusal_of v.end (length (packet p))) refl) (λ _ u j'. send_all_kept ps t.1 u j')
 
-  hear_kept : (f : Front) (v : Wire) → J v → Kept J (hear f v)
-  hear_kept (whole p b rest) v j = k.gives b rest v j
-  hear_kept (bad b rest) v j = k.gives b rest v j
-  hear_kept short v j = k.gives (waiting_of v.end) [] v j
+  hear_kept : (ws : List ℕ) (f : Front) → front ws ≡ f → (v : Wire) → waiting_of v.end ≡ ws → J v → Kept J (hear f v)
+  hear_kept ws (whole p b rest) e v w j = k.gives b rest v (w ∙ ((reads_sent ws).only p b rest e).2) j
+  hear_kept ws (bad b rest) e v w j = k.gives b rest v (w ∙ subst (PartedAt ws) e (parted_at ws)) j
+  hear_kept ws short e v w j = k.gives (waiting_of v.end) [] v (sym (append-nil (waiting_of v.end))) j
 
   pub read_kept : (v : Wire) → J v → Kept J (read v)
-  read_kept v j = hear_kept (front (waiting_of v.end)) v j
+  read_kept v j = hear_kept (waiting_of v.end) (front (waiting_of v.end)) refl v refl j
 
   wanted_kept : (p : Pkt) (v : Wire) → J v → Kept J (wanted p v)
   wanted_kept flush v j = j
@@ -185,24 +189,68 @@ module _ (J : Wire → Type 0) (k : Steady J) where
       (λ _ v₅ j₅. then_kept (read_names names v₅) (if_right (λ m u. got (Ok (shaken n m)) u)) (gather_kept read_text (names_step names) text_kept (names_calm names) 0 v₅ j₅)
       (right_kept (λ m u. got (Ok (shaken n m)) u) (λ m u j₆. j₆))))))))))
 
--- A process that is open stays open
+-- A process that is open stays open, and what it gave and what still waits is what waited and what its sends added.
 
 abbrev pub Lives : Wire → Type 0
 Lives v = (q : Pipe) × (v.end ≡ live q)
 
-pub lives_steady : Steady Lives
-lives_steady = record { gives = λ b rest v l. (record l.0 { waiting = rest }, ap (waiting_now rest) l.1); notes = λ s v l. l; refuses = λ b v l. l }
+pub record Runs (x : Process) (l : Later) (v : Wire) : Type 0 where
+  pub lives : Lives v
+  pub at_end : (course x l v.events).process_then ≡ v.end
+  pub left : (course x l v.events).later_then ≡ v.later
+  pub whole : bytes_given v.events ++ waiting_of v.end ≡ waiting_of x ++ (course x l v.events).added
 
-sent_lives : (q : Pipe) (b : List ℕ) (r : Reply) → (x : Pipe) × (sent_to (live q) b r ≡ live x)
-sent_lives q b r = go (nat_le (length b) q.allowance)
-  where
-    go : (t : Bool) → (x : Pipe) × (cond t (live (pipe_after q b r)) (live q) ≡ live x)
-    go true = (pipe_after q b r, refl)
-    go false = (q, refl)
+pub runs_first : (q : Pipe) (l : Later) → Runs (live q) l (wire (live q) l [])
+runs_first q l = record { lives = (q, refl); at_end = refl; left = refl; whole = sym (append-nil q.waiting) }
 
-pub lives_take : (b : List ℕ) → Takes Lives b
-lives_take b v (q, l) = let s = sent_lives q b (v.later 0) in (s.0, ap (λ x. sent_to x b (v.later 0)) l ∙ s.1)
+waits_now : (x : Process) (q : Pipe) (rest : List ℕ) → x ≡ live q → waiting_of (waiting_now rest x) ≡ rest
+waits_now x q rest e = ap (λ y. waiting_of (waiting_now rest y)) e
 
-pub lives_all : (ps : List Pkt) → AllTake Lives ps
-lives_all [] = tt
-lives_all (p ∷ ps) = (lives_take (packet p), lives_all ps)
+module _ (x : Process) (l : Later) where
+  runs_gives : (b rest : List ℕ) (v : Wire) → waiting_of v.end ≡ b ++ rest → Runs x l v → Runs x l (heard b rest v)
+  runs_gives b rest v e r = record {
+    lives = (record r.lives.0 { waiting = rest }, ap (waiting_now rest) r.lives.1);
+    at_end = ap (less (length b)) r.at_end ∙ ap (λ ws. waiting_now ws v.end) (ap (drop (length b)) e ∙ drop_at b rest (length b) refl);
+    left = r.left;
+    whole = ap (λ ws. (bytes_given v.events ++ b) ++ ws) (waits_now v.end r.lives.0 rest r.lives.1) ∙ append_assoc (bytes_given v.events) b rest
+        ∙ ap (λ ws. bytes_given v.events ++ ws) (sym e) ∙ r.whole;
+  }
+
+  pub runs_steady : Steady (Runs x l)
+  runs_steady = record {
+    gives = runs_gives;
+    notes = λ s v r. record { lives = r.lives; at_end = r.at_end; left = r.left; whole = r.whole };
+    refuses = λ b v r. record { lives = r.lives; at_end = r.at_end; left = r.left; whole = r.whole };
+  }
+
+  -- a send that is taken
+  allowed : (q : Pipe) (n : ℕ) (t : Bool) → ◌≡◌ {A = Result (Unit {0}) Fault} (cond t (Ok tt) (Err (snag_fault q.snag))) (Ok tt) → t ≡ true
+  allowed q n true e = refl
+  allowed q n false e = let z : ◌≡◌ {A = ℕ} 0 1 = cc in absurd (omega arith)
+
+  taken_by : (y : Process) (q : Pipe) (b : List ℕ) (r : Reply) → y ≡ live q → refusal_of y (length b) ≡ Ok tt → sent_to y b r ≡ live (pipe_after q b r)
+  taken_by y q b r e o =
+      ap (λ z. sent_to z b r) e
+      ∙ ap (λ t. cond t (live (pipe_after q b r)) (live q)) (allowed q (length b) (nat_le (length b) q.allowance) (ap (λ z. refusal_of z (length b)) (sym e) ∙ o))
+
+  pub runs_take : (b : List ℕ) → Takes (Runs x l) b
+  runs_take b v o r =
+      let q = r.lives.0 in
+      let now = taken_by v.end q b (v.later 0) r.lives.1 o in
+      let reply : List ℕ = reply_of q.replies b (some_wait q.waiting) in
+      let c = course x l v.events in
+      record {
+        lives = (pipe_after q b (v.later 0), now);
+        at_end = ap (λ y. sent_to y b (c.later_then 0)) r.at_end ∙ ap (λ m. sent_to v.end b (m 0)) r.left;
+        left = ap (λ m n. m (suc n)) r.left;
+        whole = ap (λ y. bytes_given v.events ++ waiting_of y) now
+            ∙ sym (append_assoc (bytes_given v.events) q.waiting reply)
+            ∙ ap (λ ws. (bytes_given v.events ++ ws) ++ reply) (sym (ap waiting_of r.lives.1))
+            ∙ ap (λ ws. ws ++ reply) r.whole
+            ∙ append_assoc (waiting_of x) c.added reply
+            ∙ ap (λ y. waiting_of x ++ (c.added ++ reply_to y b)) (sym (r.at_end ∙ r.lives.1));
+      }
+
+  pub runs_all : (ps : List Pkt) → AllTake (Runs x l) ps
+  runs_all [] = tt
+  runs_all (p ∷ ps) = (runs_take (packet p), runs_all ps)

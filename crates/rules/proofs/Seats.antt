@@ -13,9 +13,9 @@ use Rattle.records.specs.declared.record.Record.{Record}
 use Rattle.records.specs.Keys.{same_key}
 use Rattle.records.specs.Places.{Place}
 use Rattle.records.specs.Records.{lookup, without, changed, put_first_free}
-use Rattle.rules.specs.Stories.{Story, one_if}
-use Rattle.rules.specs.Lives.{Book, is_open}
-use Rattle.rules.specs.Steps.{Seat, its_seat, new_seat, seated, has_free}
+use Rattle.rules.specs.Stories.{one_if}
+use Rattle.rules.specs.Lives.{is_open}
+use Rattle.rules.specs.Steps.{State, Seat, its_seat, new_seat, seated, has_free}
 use Rattle.rules.proofs.Totals.{total, In, Loses, Gains, of_key, of_process, total_in, of_key_same, same_key_refl, its_lookup, without_loses, changed_gains, put_gains}
 
 -- how many processes are open
@@ -50,8 +50,8 @@ at_push [] (suc p) = refl
 at_push (x ∷ ws) zero = refl
 at_push (x ∷ ws) (suc p) = at_push ws p
 
--- a book that differs at process p alone
-abbrev pub But : ℕ → Book → Book → Type 0
+-- what is known of each process differs at process p alone
+abbrev pub But : {X : Type 0} → ℕ → (ℕ → X) → (ℕ → X) → Type 0
 But p b b' = (n : ℕ) → n ≢ p → b' n ≡ b n
 
 -- two numbers are equal or not, as the test says
@@ -76,28 +76,29 @@ other_process p r ps i z q =
     let x = total_in (of_process p) r ps i in
     omega arith
 
-module _ (G : Record → Story → Type 0) where
+-- what is known of a process that nothing has passed with is `start`
+module _ (X : Type 0) (start : X) (G : Record → Pipe → X → Type 0) where
   -- a record's process is open, and more
-  abbrev pub GoodAt : Record → Process → Story → Type 0
+  abbrev pub GoodAt : Record → Process → X → Type 0
   GoodAt r gone h = ⊥
-  GoodAt r (live q) h = G r h
+  GoodAt r (live q) h = G r q h
 
-  pub record Inv (ps : List Place) (ws : List Process) (b : Book) : Type 0 where
+  pub record Inv (ps : List Place) (ws : List Process) (b : ℕ → X) : Type 0 where
     pub as_many : open_total ws ≡ total (λ r. 1) ps
     pub one_to_each : (p : ℕ) → total (of_process p) ps ≡ one_if (is_open (at ws p))
     pub keys_differ : (k : Key) → total (of_key k) ps ≤ 1
     pub good : (r : Record) → In r ps → GoodAt r (at ws r.process) (b r.process)
-    pub unborn : (p : ℕ) → length ws ≤ p → b p ≡ []
+    pub unborn : (p : ℕ) → length ws ≤ p → b p ≡ start
 
-  is_live : (r : Record) (q : Process) (h : Story) → GoodAt r q h → one_if (is_open q) ≡ 1
+  is_live : (r : Record) (q : Process) (h : X) → GoodAt r q h → one_if (is_open q) ≡ 1
   is_live r gone h g = absurd g
   is_live r (live q) h g = refl
 
-  good_same : (r : Record) (p q : Process) (h h' : Story) → p ≡ q → h ≡ h' → GoodAt r q h' → GoodAt r p h
+  good_same : (r : Record) (p q : Process) (h h' : X) → p ≡ q → h ≡ h' → GoodAt r q h' → GoodAt r p h
   good_same r p q h h' e e' g = subst (λ z. GoodAt r z h) (sym e) (subst (GoodAt r q) (sym e') g)
 
   -- a record leaves with its process
-  module _ (ps qs : List Place) (ws : List Process) (b b' : Book) (v : Inv ps ws b) (r : Record) (i : In r ps) (l : Loses ps r qs) (u : But r.process b b') where
+  module _ (ps qs : List Place) (ws : List Process) (b b' : ℕ → X) (v : Inv ps ws b) (r : Record) (i : In r ps) (l : Loses ps r qs) (u : But r.process b b') where
     live_here : one_if (is_open (at ws r.process)) ≡ 1
     live_here = is_live r (at ws r.process) (b r.process) (v.good r i)
 
@@ -141,8 +142,8 @@ module _ (G : Record → Story → Type 0) where
     }
 
   -- a record enters with a process
-  module _ (ps qs : List Place) (ws : List Process) (b b' : Book) (v : Inv ps ws b) (r : Record) (l : Gains ps r qs) (q : Pipe) (shut : at ws r.process ≡ gone) (in_ws : r.process < length ws)
-      (unused : total (of_key r.key) ps ≡ 0) (u : But r.process b b') (g : G r (b' r.process)) where
+  module _ (ps qs : List Place) (ws : List Process) (b b' : ℕ → X) (v : Inv ps ws b) (r : Record) (l : Gains ps r qs) (q : Pipe) (shut : at ws r.process ≡ gone) (in_ws : r.process < length ws)
+      (unused : total (of_key r.key) ps ≡ 0) (u : But r.process b b') (g : G r q (b' r.process)) where
     none_here : one_if (is_open (at ws r.process)) ≡ 0
     none_here = ap (λ x. one_if (is_open x)) shut
 
@@ -193,7 +194,7 @@ module _ (G : Record → Story → Type 0) where
     }
 
   -- a process more, that is not open
-  pub more : (ps : List Place) (ws : List Process) (b b' : Book) → Inv ps ws b → But (length ws) b b' → Inv ps (ws ++ gone ∷ []) b'
+  pub more : (ps : List Place) (ws : List Process) (b b' : ℕ → X) → Inv ps ws b → But (length ws) b b' → Inv ps (ws ++ gone ∷ []) b'
   more ps ws b b' v u = record {
     as_many = open_push ws gone ∙ (let d = v.as_many in omega arith);
     one_to_each = λ p. v.one_to_each p ∙ sym (ap (λ x. one_if (is_open x)) (at_push ws p));
@@ -208,41 +209,41 @@ module _ (G : Record → Story → Type 0) where
       inside r i e = let y = within ws r.process (is_live r (at ws r.process) (b r.process) (v.good r i)) in omega arith
 
   -- what may become of a seat and of its process
-  pub record Sits (ws : List Process) (b : Book) (seat : Seat) : Type 0 where
-    pub out : (b' : Book) → But seat.of.process b b' → Inv seat.free (slice_set ws seat.of.process gone) b'
-    pub back : (m : ℕ) (o : Option Operation) (q : Pipe) (b' : Book) → But seat.of.process b b' → G (seated seat.of m o) (b' seat.of.process)
+  pub record Sits (ws : List Process) (b : ℕ → X) (seat : Seat) : Type 0 where
+    pub out : (b' : ℕ → X) → But seat.of.process b b' → Inv seat.free (slice_set ws seat.of.process gone) b'
+    pub back : (m : ℕ) (o : Option Operation) (q : Pipe) (b' : ℕ → X) → But seat.of.process b b' → G (seated seat.of m o) q (b' seat.of.process)
         → Inv (seat.holding (seated seat.of m o)) (slice_set ws seat.of.process (live q)) b'
     pub inside : seat.of.process < length ws
 
-  pub sits_there : (ps : List Place) (ws : List Process) (b : Book) → Inv ps ws b → (r : Record) → In r ps → Sits ws b (its_seat ps r)
-  sits_there ps ws b v r i = record {
-    out = λ b' u. leave ps (without ps r.key) ws b b' v r i goes u;
+  pub sits_there : (s : State) (b : ℕ → X) → Inv s.table s.world.procs b → (r : Record) → In r s.table → Sits s.world.procs b (its_seat s r)
+  sits_there s b v r i = record {
+    out = λ b' u. leave s.table (without s.table r.key) s.world.procs b b' v r i goes u;
     back = λ m o q b' u g.
-        subst (λ xs. Inv (changed (λ s. seated r m o) ps r.key) xs b') (set-set ws r.process gone (live q))
-        (enter (without ps r.key) (changed (λ s. seated r m o) ps r.key) (slice_set ws r.process gone) b b' (leave ps (without ps r.key) ws b b v r i goes (λ n x. refl)) (seated r m o)
-        (changed_gains (λ s. seated r m o) r r.key ps found once) q
-        (get_or-set_same ws r.process gone gone inside) (subst (λ n. r.process < n) (sym (length-set ws r.process gone)) inside) unused u g);
+        subst (λ xs. Inv (changed (λ x. seated r m o) s.table r.key) xs b') (set-set s.world.procs r.process gone (live q))
+        (enter (without s.table r.key) (changed (λ x. seated r m o) s.table r.key) (slice_set s.world.procs r.process gone) b b' (leave s.table (without s.table r.key) s.world.procs b b v r i goes (λ n x. refl)) (seated r m o)
+        (changed_gains (λ x. seated r m o) r r.key s.table found once) q
+        (get_or-set_same s.world.procs r.process gone gone inside) (subst (λ n. r.process < n) (sym (length-set s.world.procs r.process gone)) inside) unused u g);
     inside = inside;
   }
     where
-      once : total (of_key r.key) ps ≤ 1
+      once : total (of_key r.key) s.table ≤ 1
       once = v.keys_differ r.key
 
-      found : lookup ps r.key ≡ Some r
-      found = its_lookup r ps i once
+      found : lookup s.table r.key ≡ Some r
+      found = its_lookup r s.table i once
 
-      goes : Loses ps r (without ps r.key)
-      goes = without_loses r r.key ps found once
+      goes : Loses s.table r (without s.table r.key)
+      goes = without_loses r r.key s.table found once
 
-      inside : r.process < length ws
-      inside = within ws r.process (is_live r (at ws r.process) (b r.process) (v.good r i))
+      inside : r.process < length s.world.procs
+      inside = within s.world.procs r.process (is_live r (at s.world.procs r.process) (b r.process) (v.good r i))
 
-      unused : total (of_key r.key) (without ps r.key) ≡ 0
+      unused : total (of_key r.key) (without s.table r.key) ≡ 0
       unused = let x = goes.less (of_key r.key) in let y = ap one_if (same_key_refl r.key) in let z = once in omega arith
 
   -- a seat for a record that is to come: its process is the newest
-  pub sits_new : (ps : List Place) (ws : List Process) (b : Book) → Inv ps ws b → (r : Record) (q : Pipe) → has_free ps ≡ true → total (of_key r.key) ps ≡ 0 → r.process ≡ length ws
-      → Sits (ws ++ live q ∷ []) b (new_seat ps r)
+  pub sits_new : (ps : List Place) (ws : List Process) (b : ℕ → X) → Inv ps ws b → (r : Record) (q : Pipe) → has_free ps ≡ true → total (of_key r.key) ps ≡ 0 → r.process ≡ length ws
+      → Sits (ws ++ live q ∷ []) b (new_seat ps q r)
   sits_new ps ws b v r q free unused e = record {
     out = λ b' u. subst (λ xs. Inv ps xs b') (sym (set_at ws (live q) [] gone r.process (sym e))) (more ps ws b b' v (subst (λ n. But n b b') e u));
     back = λ m o x b' u g.

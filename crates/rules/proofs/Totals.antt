@@ -1,8 +1,9 @@
 -- What places hold, counted, and what a change of the places does to every count.
-use Rattle.std.proofs.Common.{◌≡◌, ℕ, zero, suc, ◌+◌, ◌≤◌, Bool, true, false, cond, List, [], ◌∷◌, length, Some, None, Option, ◌⊎◌, inl, inr, sym, refl, ap, ◌∙◌, subst, arith, bytes_eq}
+use Rattle.std.proofs.Common.{◌≡◌, ℕ, zero, suc, ◌+◌, ◌<◌, ◌≤◌, Bool, true, false, cond, List, [], ◌∷◌, length, Some, None, Option, ◌⊎◌, inl, inr, sym, refl, ap, ◌∙◌, subst, arith, bytes_eq}
 use Rattle.std.specs.Prelude.{if◌then◌else◌, option_map, find, unwrap_or, ◌==◌}
 use Rattle.std.specs.List.{All, count_by}
 use Rattle.std.proofs.lemmas.List.Sums.{sum_by-cons}
+use Rattle.std.proofs.lemmas.Bool.{eqb-true}
 use Rattle.std.proofs.lemmas.Slice.Eq.{bytes_eq-Decides}
 use Rattle.records.specs.declared.key.Key.{Key}
 use Rattle.records.specs.declared.record.Record.{Record}
@@ -87,6 +88,16 @@ its_lookup r (Some s ∷ ps) i once = go (same_key s.key r.key) refl i (λ i' o.
     go false t (inl e) ih =
         let y = ap one_if (ap (λ (x : Record). same_key x.key r.key) e ∙ same_key_refl r.key) in let z = ap one_if t in absurd (omega arith)
     go false t (inr i') ih = ih i' (let z = ap one_if t in omega arith)
+
+-- where a process is counted, a record has it
+pub one_of : (p : ℕ) (ps : List Place) → 0 < total (of_process p) ps → (r : Record) × In r ps × (r.process ≡ p)
+one_of p [] h = absurd (omega arith)
+one_of p (None ∷ ps) h = one_of p ps h
+one_of p (Some s ∷ ps) h = go (s.process == p) refl h (λ h'. one_of p ps h')
+  where
+    go : (b : Bool) → (s.process == p) ≡ b → 0 < one_if b + total (of_process p) ps → (0 < total (of_process p) ps → (r : Record) × In r ps × (r.process ≡ p)) → (r : Record) × In r (Some s ∷ ps) × (r.process ≡ p)
+    go true t h' ih = (s, inl refl, eqb-true s.process p t)
+    go false t h' ih = let f = ih (omega arith) in (f.0, inr f.1, f.2)
 
 -- Changes
 

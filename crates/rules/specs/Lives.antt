@@ -1,5 +1,5 @@
 -- A table's life: the table over its host, and the stories of the host's processes, as somebody beside them writes them down.
-use Rattle.std.specs.Prelude.{◌≡◌, ℕ, Bool, true, false, cond, List, [], ◌∷◌, ◌==◌}
+use Rattle.std.specs.Prelude.{◌≡◌, ℕ, Bool, true, false, cond, List, [], ◌∷◌, ◌++◌, ◌==◌}
 use Rattle.std.specs.List.{count_by}
 use Rattle.host.specs.Worlds.{Process, gone, live}
 use Rattle.host.specs.Talk.{Event}
@@ -13,12 +13,17 @@ use Rattle.rules.specs.Stories.{episode, Story}
 abbrev pub Book : Type 0
 Book = ℕ → Story
 
+-- all bytes that came to wait at each process, in order: what waited at its start, and what its sends added
+abbrev pub Ledger : Type 0
+Ledger = ℕ → List ℕ
+
 pub record Life : Type 0 where
   pub now : State
   pub book : Book
+  pub ledger : Ledger
 
-abbrev pub life : State → Book → Life
-life s b = record { now = s; book = b }
+abbrev pub life : State → Book → Ledger → Life
+life s b l = record { now = s; book = b; ledger = l }
 
 -- a process has one episode more
 abbrev pub with_episode : ℕ → Call → List Event → Answer → Book → Book
@@ -28,14 +33,24 @@ with_episode p c es a b = λ n. cond (n == p) (episode c es a ∷ b n) (b n)
 abbrev pub written : Call → Answer → List Deed → Book → Book
 written c a [] b = b
 written c a (starts command n ∷ ds) b = written c a ds b
-written c a (talks p es ∷ ds) b = with_episode p c es a (written c a ds b)
+written c a (talks p es bytes ∷ ds) b = with_episode p c es a (written c a ds b)
 written c a (ends p how ∷ ds) b = written c a ds b
+
+-- a process to which bytes came more
+abbrev pub with_bytes : ℕ → List ℕ → Ledger → Ledger
+with_bytes p bytes l = λ n. cond (n == p) (l n ++ bytes) (l n)
+
+abbrev pub came : List Deed → Ledger → Ledger
+came [] l = l
+came (starts command n ∷ ds) l = came ds l
+came (talks p es bytes ∷ ds) l = with_bytes p bytes (came ds l)
+came (ends p how ∷ ds) l = came ds l
 
 -- one call
 abbrev pub turn : ℕ → Turn → Life → Life
 turn capacity t l =
     let o = step capacity t l.now in
-    life o.after (written t.call o.answer o.deeds l.book)
+    life o.after (written t.call o.answer o.deeds l.book) (came o.deeds l.ledger)
 
 -- calls, in order, refused ones included
 abbrev pub run : ℕ → List Turn → Life → Life
@@ -51,3 +66,4 @@ pub record Begins (l : Life) : Type 0 where
   pub empty : held l.now.table ≡ []
   pub none_open : count_by is_open l.now.world.procs ≡ 0
   pub unwritten : (p : ℕ) → l.book p ≡ []
+  pub none_came : (p : ℕ) → l.ledger p ≡ []

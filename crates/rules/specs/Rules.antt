@@ -1,8 +1,8 @@
 -- The three rules that stand in the whole life of a table.
-use Rattle.std.specs.Prelude.{◌≡◌, ℕ, ◌+◌, ◌*◌, ◌≤◌, Bool, false, List, length, Some, None, Option, ◌==◌}
+use Rattle.std.specs.Prelude.{◌≡◌, ℕ, ◌+◌, ◌*◌, ◌≤◌, Bool, false, List, ◌++◌, length, Some, None, Option, ◌==◌}
 use Rattle.std.specs.List.{All, count_by}
 use Rattle.packetline.specs.Packets.{flushes}
-use Rattle.host.specs.Worlds.{process}
+use Rattle.host.specs.Worlds.{Pipe, live, process}
 use Rattle.records.specs.declared.key.Key.{Key}
 use Rattle.records.specs.declared.record.Record.{Record}
 use Rattle.records.specs.Keys.{same_key}
@@ -34,6 +34,14 @@ pub record Rules (l : Life) : Type 0 where
   -- (c) a recorded process was sent no apply for an operation that by then it had never named, or had answered with abort
   pub no_stray_apply : All (λ r. (p : ℕ) → runs r ≡ Some p → stray_applies (l.book p) ≡ 0) (held l.now.table)
 
+-- The books are honest: of each open process, what it gave and then what still waits is all that came to wait. (What it was sent are the bytes of the
+-- sends that it took: only those are events of that kind.)
+abbrev pub Honest : Life → Type 0
+Honest l = (p : ℕ) (q : Pipe) → process l.now.world p ≡ live q → all_given (l.book p) ++ q.waiting ≡ l.ledger p
+
 -- after every list of calls, whatever the host leaves free
 abbrev pub RulesStand : Type 0
 RulesStand = (capacity : ℕ) (l : Life) → Begins l → (turns : List Turn) → Rules (run capacity turns l)
+
+abbrev pub BooksStand : Type 0
+BooksStand = (capacity : ℕ) (l : Life) → Begins l → (turns : List Turn) → Honest (run capacity turns l)

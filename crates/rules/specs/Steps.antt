@@ -1,5 +1,5 @@
 -- What a table over a host makes of each call: its answer, the table and the host's world after it, and what it did with the host.
-use Rattle.std.specs.Prelude.{ℕ, Bool, cond, not, ◌&&◌, List, [], ◌∷◌, ◌++◌, map, length, Some, None, Ok, Err, codes, Option, Result, is_none, nat_lt, unwrap_or, slice_set}
+use Rattle.std.specs.Prelude.{ℕ, suc, Bool, cond, not, ◌&&◌, List, [], ◌∷◌, ◌++◌, map, length, Some, None, Ok, Err, codes, Option, Result, is_none, nat_lt, unwrap_or, slice_set}
 use Rattle.std.specs.List.{list_any}
 use Rattle.packetline.specs.Packets.{Pkt, flush, line_pkt}
 use Rattle.host.specs.declared.host.How.{How}
@@ -7,9 +7,9 @@ use Rattle.host.specs.declared.host.How.TheVariants.{Close, Kill}
 use Rattle.host.specs.declared.fault.Fault.TheVariants.{Closed, Broken, Other as other_fault}
 use Rattle.host.specs.declared.fault.LineFault.{LineFault}
 use Rattle.host.specs.declared.fault.LineFault.TheVariants.{Host, Packet, Marker, Text}
-use Rattle.host.specs.Worlds.{Process, gone, live, World, process, with_process}
-use Rattle.host.specs.Acts.{can_start}
-use Rattle.host.specs.Talk.{Event, bytes_given, Wire, wire, Got, got, lost, then, send_all}
+use Rattle.host.specs.Worlds.{reply_of, Pipe, Process, gone, live, less, World, process, with_process}
+use Rattle.host.specs.Acts.{can_start, some_wait, sent_to}
+use Rattle.host.specs.Talk.{Event, took, refused as not_taken, gave, noted, bytes_given, Later, Wire, wire, Got, got, lost, then, send_all}
 use Rattle.process.specs.declared.status.Word.TheVariants.{Success, Delayed, Abort, Error, Other}
 use Rattle.process.specs.declared.status.Status.{Status}
 use Rattle.process.specs.declared.status.Status.TheVariants.{Previous, Unset, Named}
@@ -144,6 +144,30 @@ after_piece op m (final s) = after_final op m s
 abbrev pub result_lost : ℕ → LineFault → Fate
 result_lost m f = stays m None
 
+-- What comes to wait
+
+-- what a process adds at a send that it takes
+abbrev pub reply_to : Process → List ℕ → List ℕ
+reply_to gone bytes = []
+reply_to (live q) bytes = reply_of q.replies bytes (some_wait q.waiting)
+
+-- a process as events leave it, the replies to come, and all that its sends added
+pub record Course : Type 0 where
+  pub process_then : Process
+  pub later_then : Later
+  pub added : List ℕ
+
+abbrev pub after_one : Event → Course → Course
+after_one (took b) c =
+    record { process_then = sent_to c.process_then b (c.later_then 0); later_then = λ n. c.later_then (suc n); added = c.added ++ reply_to c.process_then b }
+after_one (not_taken b) c = c
+after_one (gave b) c = record { process_then = less (length b) c.process_then; later_then = c.later_then; added = c.added }
+after_one (noted s) c = c
+
+abbrev pub course : Process → Later → List Event → Course
+course x later [] = record { process_then = x; later_then = later; added = [] }
+course x later (e ∷ es) = after_one e (course x later es)
+
 -- Outcomes
 
 -- a table over its host
@@ -154,10 +178,11 @@ pub record State : Type 0 where
 abbrev pub state : List Place → World → State
 state t w = record { table = t; world = w }
 
--- what was done with the host: a command was to be started, and has this process number or could not be; this passed with a process; a process was ended
+-- what was done with the host: a command was to be started, and has this process number or could not be; this passed with a process, to which these
+-- bytes came to wait since it was started or last talked to; a process was ended
 pub data Deed : Type 0 where
   starts : List ℕ → Option ℕ → Deed
-  talks : ℕ → List Event → Deed
+  talks : ℕ → List Event → List ℕ → Deed
   ends : ℕ → How → Deed
 
 -- a call's answer, the table and the host then, and its deeds, the latest first
@@ -181,28 +206,35 @@ ended_as startable w p (live q) = record { procs = slice_set w.procs p gone; sta
 abbrev pub ended : (List ℕ → Bool) → World → ℕ → World
 ended startable w p = ended_as startable w p (process w p)
 
--- a record at its place: what the table becomes where another stands there, and where it is free
+-- a record at its place: what the table becomes where another stands there, and where it is free; its process before a talk, and what waits there that
+-- is not written down yet
 pub record Seat : Type 0 where
   pub of : Record
   pub holding : Record → List Place
   pub free : List Place
+  pub before : Process
+  pub waited : List ℕ
 
 -- the place where a record stands
-abbrev pub its_seat : List Place → Record → Seat
-its_seat table r = record { of = r; holding = λ s. changed (λ _. s) table r.key; free = without table r.key }
+abbrev pub its_seat : State → Record → Seat
+its_seat s r = record { of = r; holding = λ x. changed (λ _. x) s.table r.key; free = without s.table r.key; before = process s.world r.process; waited = [] }
 
--- the first free place, for a record that is to come
-abbrev pub new_seat : List Place → Record → Seat
-new_seat table r = record { of = r; holding = λ s. unwrap_or (put_first_free table s) table; free = table }
+-- the first free place, for a record that is to come, with its new process
+abbrev pub new_seat : List Place → Pipe → Record → Seat
+new_seat table q r = record { of = r; holding = λ x. unwrap_or (put_first_free table x) table; free = table; before = live q; waited = q.waiting }
+
+-- what came to wait at its process
+abbrev pub comes : Turn → Seat → Wire → List ℕ
+comes t seat v = seat.waited ++ (course seat.before t.later v.events).added
 
 abbrev pub seated : Record → ℕ → Option Operation → Record
 seated r m o = with_reading o (with_capabilities (record { mask = m }) r)
 
 -- a call is over: the process is as the talk left it, or ended
 abbrev pub settle_by : Turn → World → Seat → Wire → Answer → Fate → Outcome
-settle_by t w seat v a (stays m o) = outcome a (state (seat.holding (seated seat.of m o)) (with_process w seat.of.process v.end)) (talks seat.of.process v.events ∷ [])
+settle_by t w seat v a (stays m o) = outcome a (state (seat.holding (seated seat.of m o)) (with_process w seat.of.process v.end)) (talks seat.of.process v.events (comes t seat v) ∷ [])
 settle_by t w seat v a (leaves how) =
-    outcome a (state seat.free (ended t.startable_last (with_process w seat.of.process v.end) seat.of.process)) (ends seat.of.process how ∷ talks seat.of.process v.events ∷ [])
+    outcome a (state seat.free (ended t.startable_last (with_process w seat.of.process v.end) seat.of.process)) (ends seat.of.process how ∷ talks seat.of.process v.events (comes t seat v) ∷ [])
 
 abbrev pub settle : Turn → World → Seat → Wire → Verdict → Outcome
 settle t w seat v d = settle_by t w seat v d.answer d.fate
@@ -237,9 +269,9 @@ started t w = record { procs = w.procs ++ live t.newcomer ∷ []; startable = t.
 
 -- a handshake is over: where it failed the process is closed, and there is no record
 abbrev pub after_handshake : Turn → State → Key → Operation → Asked → Got (Result Shaken ℕ) → Outcome
-after_handshake t s k op a (got (Ok x) v) = apply_at t (started t s.world) (new_seat s.table (newcomer_record k (length s.world.procs) x.version x.mask)) v op a
-after_handshake t s k op a (got (Err n) v) = settle t (started t s.world) (new_seat s.table (newcomer_record k (length s.world.procs) 0 0)) v (verdict (refused n) (leaves Close))
-after_handshake t s k op a (lost f v) = settle t (started t s.world) (new_seat s.table (newcomer_record k (length s.world.procs) 0 0)) v (verdict (fault f) (leaves Close))
+after_handshake t s k op a (got (Ok x) v) = apply_at t (started t s.world) (new_seat s.table t.newcomer (newcomer_record k (length s.world.procs) x.version x.mask)) v op a
+after_handshake t s k op a (got (Err n) v) = settle t (started t s.world) (new_seat s.table t.newcomer (newcomer_record k (length s.world.procs) 0 0)) v (verdict (refused n) (leaves Close))
+after_handshake t s k op a (lost f v) = settle t (started t s.world) (new_seat s.table t.newcomer (newcomer_record k (length s.world.procs) 0 0)) v (verdict (fault f) (leaves Close))
 
 -- what a table says and hears when it meets a process
 abbrev pub greeting : Wire → Got (Result Shaken ℕ)
@@ -267,25 +299,29 @@ unless_reading s r o = cond (is_reading r) (refuse 4 s) o
 
 abbrev pub apply_to : ℕ → Turn → State → Key → Operation → Asked → Option Record → Outcome
 apply_to capacity t s k op a None = begin capacity t s k op a
-apply_to capacity t s k op a (Some r) = unless_reading s r (apply_at t s.world (its_seat s.table r) (line_to t s.world r) op a)
+apply_to capacity t s k op a (Some r) = unless_reading s r (apply_at t s.world (its_seat s r) (line_to t s.world r) op a)
+
+abbrev pub fetch_at : Turn → State → Operation → List ℕ → Record → Outcome
+fetch_at t s op path r =
+    conclude t s.world (its_seat s r) (exchange (request_for op path []) [] (line_to t s.world r)) (λ st _. after_exchange r.process op r.capabilities.mask never_delayed st) (after_fault r.capabilities.mask)
+
+abbrev pub list_at : Turn → State → ℕ → ℕ → Record → Outcome
+list_at t s rows room r =
+    conclude t s.world (its_seat s r) (listing (line_to t s.world r)) (λ st v. after_listing r.capabilities.mask (counted rows room (named_in (bytes_given v.events))) st) (after_fault r.capabilities.mask)
 
 -- 3 where no record has the key
 abbrev pub fetch_from : Turn → State → Operation → List ℕ → Option Record → Outcome
 fetch_from t s op path None = refuse 3 s
-fetch_from t s op path (Some r) =
-    unless_reading s r
-    (conclude t s.world (its_seat s.table r) (exchange (request_for op path []) [] (line_to t s.world r)) (λ st _. after_exchange r.process op r.capabilities.mask never_delayed st) (after_fault r.capabilities.mask))
+fetch_from t s op path (Some r) = unless_reading s r (fetch_at t s op path r)
 
 abbrev pub list_from : Turn → State → ℕ → ℕ → Option Record → Outcome
 list_from t s rows room None = refuse 3 s
-list_from t s rows room (Some r) =
-    unless_reading s r
-    (conclude t s.world (its_seat s.table r) (listing (line_to t s.world r)) (λ st v. after_listing r.capabilities.mask (counted rows room (named_in (bytes_given v.events))) st) (after_fault r.capabilities.mask))
+list_from t s rows room (Some r) = unless_reading s r (list_at t s rows room r)
 
 -- a result is that of the record's operation; 5 where no reading record has the process
 abbrev pub read_at : Turn → State → Record → Option Operation → Outcome
 read_at t s r None = refuse 5 s
-read_at t s r (Some op) = conclude t s.world (its_seat s.table r) (read_piece (line_to t s.world r)) (λ x _. after_piece op r.capabilities.mask x) (result_lost r.capabilities.mask)
+read_at t s r (Some op) = conclude t s.world (its_seat s r) (read_piece (line_to t s.world r)) (λ x _. after_piece op r.capabilities.mask x) (result_lost r.capabilities.mask)
 
 abbrev pub read_from : Turn → State → Option Record → Outcome
 read_from t s None = refuse 5 s
