@@ -60,28 +60,39 @@ module _ {H : Type 0} {log : H → Log} {world : H → World} (c : List ℕ) whe
 
 -- What an exchange tells
 
-module _ (command : List ℕ) (ms : List Meta) (content : List ℕ) where
-  abbrev InvokePassed : List Pkt → List Pkt → Status → Type 0
-  InvokePassed gs ss s = (ss ≡ request command ms ++ content_packets content) × ((s₀ : Status) × StatusLines gs s₀ × (s ≡ first s₀))
+-- lines were sent and content, and then a status was told
+module _ (lines : List Pkt) (content : List ℕ) where
+  abbrev pub Exchanged : List Pkt → List Pkt → Status → Type 0
+  Exchanged gs ss s = (ss ≡ lines ++ content_packets content) × ((s₀ : Status) × StatusLines gs s₀ × (s ≡ first s₀))
 
-  abbrev NotInvoked : List Pkt → List Pkt → Type 0
-  NotInvoked gs ss = flushes_of gs ≡ 0
+  abbrev pub NotExchanged : List Pkt → List Pkt → Type 0
+  NotExchanged gs ss = flushes_of gs ≡ 0
 
-  invoke_passes : (v : Wire) → Passes InvokePassed NotInvoked v (invoked command ms content v)
-  invoke_passes v =
-      passes_then (content_then content) v (send_all (request command ms) v) (send_all_passes (request command ms) v)
+  pub exchange_passes : (v : Wire) → Passes Exchanged NotExchanged v (then (send_all lines v) (content_then content))
+  exchange_passes v =
+      passes_then (content_then content) v (send_all lines v) (send_all_passes lines v)
       (λ gs ss a u h.
       passes_then status_then u (send_all (content_packets content) u) (send_all_passes (content_packets content) u)
       (λ hs ts b x k.
       passes_then as_first x (read_status x) (status_passes x)
       (λ is us s y m.
       let none : gs ++ (hs ++ (is ++ [])) ≡ is = ap (λ xs. xs ++ (hs ++ (is ++ []))) h.0 ∙ ap (λ xs. xs ++ (is ++ [])) k.0 ∙ append-nil is in
-      let all : ss ++ (ts ++ (us ++ [])) ≡ request command ms ++ content_packets content =
-      ap (λ xs. xs ++ (ts ++ (us ++ []))) h.1 ∙ ap (λ xs. request command ms ++ xs) (ap (λ xs. ts ++ (xs ++ [])) m.0 ∙ append-nil ts ∙ k.1) in
+      let all : ss ++ (ts ++ (us ++ [])) ≡ lines ++ content_packets content =
+      ap (λ xs. xs ++ (ts ++ (us ++ []))) h.1 ∙ ap (λ xs. lines ++ xs) (ap (λ xs. ts ++ (xs ++ [])) m.0 ∙ append-nil ts ∙ k.1) in
       passes_got (first s) y (all, (s, subst (λ ps. StatusLines ps s) (sym none) m.1, refl)))
       (λ is us m. ap flushes_of (ap (λ xs. xs ++ (hs ++ is)) h.0 ∙ ap (λ xs. xs ++ is) k.0) ∙ m.1))
       (λ hs ts k. ap flushes_of (ap (λ xs. xs ++ hs) h.0 ∙ k)))
       (λ gs ss h. ap flushes_of h)
+
+module _ (command : List ℕ) (ms : List Meta) (content : List ℕ) where
+  abbrev InvokePassed : List Pkt → List Pkt → Status → Type 0
+  InvokePassed = Exchanged (request command ms) content
+
+  abbrev NotInvoked : List Pkt → List Pkt → Type 0
+  NotInvoked = NotExchanged (request command ms) content
+
+  invoke_passes : (v : Wire) → Passes InvokePassed NotInvoked v (invoked command ms content v)
+  invoke_passes v = exchange_passes (request command ms) content v
 
   no_zero : (n : ℕ) → n ≡ 0 → n ≡ 1 → ⊥
   no_zero n a b = omega arith

@@ -45,13 +45,13 @@ first_passes v =
     (λ gs ss h. h)
 
 -- packets without a flush, a flush, and packets that tell a status
-abbrev ListingIs : List Pkt → Status → Type 0
+abbrev pub ListingIs : List Pkt → Status → Type 0
 ListingIs gs s = (ls : List Pkt) × ((ps : List Pkt) × ((s₀ : Status) × (flushes_of ls ≡ 0) × (gs ≡ ls ++ flush ∷ ps) × StatusLines ps s₀ × (s ≡ first s₀)))
 
 abbrev AnswerPassed : List Pkt → List Pkt → Status → Type 0
 AnswerPassed gs ss s = (ss ≡ []) × ListingIs gs s
 
-abbrev OneFlush : List Pkt → List Pkt → Type 0
+abbrev pub OneFlush : List Pkt → List Pkt → Type 0
 OneFlush gs ss = flushes_of gs ≤ 1
 
 after_lines : (gs : List Pkt) → LinesAre gs → (hs : List Pkt) (s : Status) → (s₀ : Status) × StatusLines hs s₀ × (s ≡ first s₀) → ListingIs (gs ++ hs) s
@@ -69,10 +69,10 @@ answer_passes v =
     (λ hs ts k. let a = flushes_append gs hs in let b = lines_flush gs h.1 in omega (arith, k.1)))
     (λ gs ss h. omega (arith, h.1))
 
-abbrev ListPassed : List Pkt → List Pkt → Status → Type 0
+abbrev pub ListPassed : List Pkt → List Pkt → Status → Type 0
 ListPassed gs ss s = (ss ≡ list_request) × ListingIs gs s
 
-listing_passes : (v : Wire) → Passes ListPassed OneFlush v (listing v)
+pub listing_passes : (v : Wire) → Passes ListPassed OneFlush v (listing v)
 listing_passes v =
     passes_then lines_then v (send_all list_request v) (send_all_passes list_request v)
     (λ gs ss x u h.

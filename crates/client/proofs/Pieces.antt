@@ -1,5 +1,5 @@
 -- One read of a result.
-use Rattle.std.proofs.Common.{◌≡◌, ℕ, List, [], ◌∷◌, ◌++◌, take, Some, None, Ok, Err, Option, Result, sym, ap, ◌∙◌, subst, arith}
+use Rattle.std.proofs.Common.{◌≡◌, ℕ, ◌≤◌, List, [], ◌∷◌, ◌++◌, take, Some, None, Ok, Err, Option, Result, sym, ap, ◌∙◌, subst, arith}
 use Rattle.std.proofs.lemmas.List.{append-nil}
 use Rattle.slices.specs.Answers.{told}
 use Rattle.packetline.specs.Packets.{Pkt, flush, line, Decoded, packets, flushes_of}
@@ -23,13 +23,13 @@ use Rattle.process.proofs.Passes.{Passes, passes_then, passes_got, Content, only
 use Rattle.process.proofs.Tellings.{reads_same, status_passes, one_flush, status_same}
 
 -- a payload or a final status was read
-abbrev PiecePassed : List Pkt → List Pkt → Piece → Type 0
+abbrev pub PiecePassed : List Pkt → List Pkt → Piece → Type 0
 PiecePassed gs ss (payload l) = (gs ≡ line l ∷ []) × (ss ≡ [])
 PiecePassed gs ss (final s) = (ps : List Pkt) × (gs ≡ flush ∷ ps) × StatusLines ps s × (ss ≡ [])
 
--- neither was
-abbrev NoPiece : List Pkt → List Pkt → Type 0
-NoPiece gs ss = (ss ≡ []) × ((l : List ℕ) → gs ≡ line l ∷ [] → ⊥) × ((ps : List Pkt) (s : Status) → gs ≡ flush ∷ ps → StatusLines ps s → ⊥)
+-- neither was, and at most one flush was given
+abbrev pub NoPiece : List Pkt → List Pkt → Type 0
+NoPiece gs ss = (ss ≡ []) × ((l : List ℕ) → gs ≡ line l ∷ [] → ⊥) × ((ps : List Pkt) (s : Status) → gs ≡ flush ∷ ps → StatusLines ps s → ⊥) × (flushes_of gs ≤ 1)
 
 flush_first : (gs ps : List Pkt) → flushes_of gs ≡ 0 → gs ≡ flush ∷ ps → ⊥
 flush_first gs ps none e = let n = ap flushes_of e in omega arith
@@ -47,12 +47,13 @@ final_passes None gs ss u h =
       ap (λ xs. xs ++ ts) h.1 ∙ k.0,
       λ l e. let z : ◌≡◌ {A = ℕ} 0 1 = cc in omega arith,
       λ ps s e m. let same : hs ≡ ps = cc in let one = ap flushes_of same ∙ one_flush ps s m in let none = k.1 in omega arith,
+      (let one = ap flushes_of here in let none = k.1 in omega arith),
     ))
 
-piece_passes : (v : Wire) → Passes PiecePassed NoPiece v (read_piece v)
+pub piece_passes : (v : Wire) → Passes PiecePassed NoPiece v (read_piece v)
 piece_passes v =
     passes_then final_then v (read_content v) (only_content_passes v) (λ gs ss o u h. final_passes o gs ss u h)
-    (λ gs ss h. (h.1, h.2, λ ps s e m. flush_first gs ps h.0 e))
+    (λ gs ss h. (h.1, h.2, λ ps s e m. flush_first gs ps h.0 e, omega (arith, h.0)))
 
 law_by : (sent given : List ℕ) (r : Result Piece LineFault) → Told PiecePassed NoPiece sent given r → PieceLaw sent given r
 law_by sent given (Ok (payload l)) (gs, (ss, reads, said, h)) =

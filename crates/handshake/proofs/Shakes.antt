@@ -132,21 +132,21 @@ text_none t gs ss h = text_silent gs ss t h
 
 module _ (prefix versions : List ℕ) (names : List Name) where
   -- packets on which both agreed
-  record AgreedBy (gs : List Pkt) (v m : ℕ) : Type 0 where
-    welcome : List ℕ
-    choice : List ℕ
-    lines : List (List ℕ)
-    are : gs ≡ line welcome ∷ line choice ∷ flush ∷ (map line lines ++ flush ∷ [])
-    texts : all_text (welcome ∷ choice ∷ lines) ≡ true
-    greets : welcomed prefix (Some (trim_end welcome)) ≡ Ok tt
-    chooses : chosen versions (Some (trim_end choice)) ≡ Ok v
-    mask : mask_after names 0 (map trim_end lines) ≡ Ok m
+  pub record AgreedBy (gs : List Pkt) (v m : ℕ) : Type 0 where
+    pub welcome : List ℕ
+    pub choice : List ℕ
+    pub lines : List (List ℕ)
+    pub are : gs ≡ line welcome ∷ line choice ∷ flush ∷ (map line lines ++ flush ∷ [])
+    pub texts : all_text (welcome ∷ choice ∷ lines) ≡ true
+    pub greets : welcomed prefix (Some (trim_end welcome)) ≡ Ok tt
+    pub chooses : chosen versions (Some (trim_end choice)) ≡ Ok v
+    pub mask : mask_after names 0 (map trim_end lines) ≡ Ok m
 
-  abbrev Shook : List Pkt → List Pkt → Result Shaken ℕ → Type 0
+  abbrev pub Shook : List Pkt → List Pkt → Result Shaken ℕ → Type 0
   Shook gs ss (Ok x) = (ss ≡ hello prefix versions ++ desired names) × AgreedBy gs x.version x.mask
   Shook gs ss (Err n) = flushes_of gs ≤ 1
 
-  abbrev Few : List Pkt → List Pkt → Type 0
+  abbrev pub Few : List Pkt → List Pkt → Type 0
   Few gs ss = flushes_of gs ≤ 1
 
   few_more : (gs hs : List Pkt) (n k : ℕ) → flushes_of gs ≡ n → flushes_of hs ≤ k → n + k ≤ 1 → flushes_of (gs ++ hs) ≤ 1
@@ -234,7 +234,7 @@ module _ (prefix versions : List ℕ) (names : List Name) where
       (λ hs ts r x h. welcome_right gs ss given said hs ts h.0 r x h.2 h.1)
       (λ hs ts h. few_more gs hs 0 0 (ap flushes_of given) (omega (arith, h.0)) (omega arith))
 
-  handshake_passes : (v : Wire) → Passes Shook Few v (handshake prefix versions names v)
+  pub handshake_passes : (v : Wire) → Passes Shook Few v (handshake prefix versions names v)
   handshake_passes v =
       from_start Shook Few v (handshake prefix versions names v)
       (from_then Shook Few [] [] (welcome_then prefix versions names) v (send_all (hello prefix versions) v) (send_all_passes (hello prefix versions) v)

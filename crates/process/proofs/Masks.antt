@@ -1,11 +1,11 @@
 -- The bits of a mask.
-use Rattle.std.proofs.Common.{◌≡◌, ℕ, zero, suc, ◌+◌, ◌-◌, ◌*◌, ◌/◌, ◌%◌, ◌^◌, ◌<◌, ◌≤◌, max, Bool, true, false, cond, ◌&&◌, ◌||◌, eqb, ltb, sym, ap, ◌∙◌, ⊎_elim, arith}
+use Rattle.std.proofs.Common.{◌≡◌, ℕ, zero, suc, ◌+◌, ◌-◌, ◌*◌, ◌/◌, ◌%◌, ◌^◌, ◌<◌, ◌≤◌, max, Bool, true, false, cond, not, ◌&&◌, ◌||◌, eqb, ltb, sym, refl, ap, ◌∙◌, ⊎_elim, arith}
 use native.Mathlib.Nat.{div-eq_of_lt, div_self}
-use lib.Bits.{bit_or, or_shr, or_step}
+use lib.Bits.{bit_or, bit_xor, or_shr, or_step, xor_shr, xor_add_and}
 use Rattle.std.proofs.lemmas.Nat.{pow_pos, pow-add, pow_below, shl-shr, shr-shr, one_shl}
 use Rattle.std.proofs.lemmas.Bool.{cases_order, eq-eqb, ne_eqb, eqb-true, cond-true, cond-false, lt-ltb, le-ltb}
 use Rattle.std.proofs.lemmas.Bool.Decides.{nat_tests}
-use Rattle.process.specs.Masks.{holds, with_bit}
+use Rattle.process.specs.Masks.{holds, with_bit, without_bit}
 
 bits_or : (a b k : ℕ) → bit_or a b / 2 ^ k % 2 ≡ max (a / 2 ^ k % 2) (b / 2 ^ k % 2)
 bits_or a b k = ap (λ (n : ℕ). n % 2) (or_shr a b k) ∙ (let s = or_step (a / 2 ^ k) (b / 2 ^ k) in omega arith)
@@ -58,6 +58,28 @@ holds_cond m k j false = grind (arith, nat_tests)
 pub holds_with : (m k j : ℕ) → holds (with_bit m k) j ≡ ((eqb j k && ltb k 32) || holds m j)
 unfolding with_bit
 holds_with m k j = holds_cond m k j (ltb k 32)
+
+-- a mask without a bit that it has
+
+bits_xor : (a b k : ℕ) → bit_xor a b / 2 ^ k % 2 ≡ (a / 2 ^ k % 2 + b / 2 ^ k % 2) % 2
+bits_xor a b k = ap (λ (n : ℕ). n % 2) (xor_shr a b k) ∙ (let s = xor_add_and (a / 2 ^ k) (b / 2 ^ k) in omega arith)
+
+holds_xor : (m i k : ℕ) → holds m i ≡ true → holds (bit_xor m (2 ^ i)) k ≡ (holds m k && not (eqb k i))
+holds_xor m i k h =
+    let s = bits_xor m (2 ^ i) k in
+    let p = bit_pow i k in
+    let same : eqb k i ≡ true → m / 2 ^ k % 2 ≡ m / 2 ^ i % 2 = λ e. ap (λ n. m / 2 ^ n % 2) (eqb-true k i e) in
+    grind (arith, nat_tests)
+
+holds_unless : (m k j : ℕ) (b : Bool) → holds m k ≡ b → holds (cond b (bit_xor m (2 ^ k)) m) j ≡ (holds m j && not (eqb j k))
+holds_unless m k j true h = holds_xor m k j h
+holds_unless m k j false h =
+    let same : eqb j k ≡ true → m / 2 ^ j % 2 ≡ m / 2 ^ k % 2 = λ e. ap (λ n. m / 2 ^ n % 2) (eqb-true j k e) in
+    grind (arith, nat_tests)
+
+pub holds_without : (m k j : ℕ) → holds (without_bit m k) j ≡ (holds m j && not (eqb j k))
+unfolding without_bit
+holds_without m k j = holds_unless m k j (holds m k) refl
 
 -- a mask is known by its bits
 same_odd : (a b : ℕ) → a < 2 → b < 2 → eqb a 1 ≡ eqb b 1 → a ≡ b

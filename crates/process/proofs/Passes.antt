@@ -79,7 +79,7 @@ one_packet ws p b rest e =
     decode_whole b p b [] f ∙ ap (λ (x : Decoded). decoded (p ∷ x.packets) x.left) decode_empty
 
 -- four bytes that are no header are no packet alone either
-abbrev PartedAt : List ℕ → Front → Type 0
+abbrev pub PartedAt : List ℕ → Front → Type 0
 PartedAt ws (whole p b rest) = Unit {0}
 PartedAt ws (bad b rest) = ws ≡ b ++ rest
 PartedAt ws short = Unit {0}
@@ -88,7 +88,7 @@ parted_by : (ws : List ℕ) (k : Result (Packet ℕ) ℕ) → PartedAt ws (front
 parted_by ws (Err n) = sym (take-append-drop 4 ws)
 parted_by ws (Ok k) = cond_both (leb (4 + payload_length k) (length ws)) _ _ (PartedAt ws) (λ _. tt) (λ _. tt)
 
-parted_at : (ws : List ℕ) → PartedAt ws (front ws)
+pub parted_at : (ws : List ℕ) → PartedAt ws (front ws)
 unfolding front
 parted_at ws = cond_both (leb 4 (length ws)) _ _ (PartedAt ws) (λ _. parted_by ws (header ws)) (λ _. tt)
 

@@ -1,5 +1,5 @@
 -- Capabilities: one bit for each desired name, the first of equal names.
-use Rattle.std.specs.Prelude.{ℕ, ◌/◌, ◌%◌, ◌^◌, Bool, cond, List, Option, ◌==◌, bit_or, nat_lt}
+use Rattle.std.specs.Prelude.{ℕ, ◌/◌, ◌%◌, ◌^◌, Bool, cond, List, Option, ◌==◌, bit_or, bit_xor, nat_lt}
 use Rattle.std.specs.Str.{bytes_eq}
 use Rattle.slices.specs.declared.name.Name.{Name}
 use Rattle.slices.specs.First.{first_from}
@@ -12,6 +12,10 @@ holds m k = m / 2 ^ k % 2 == 1
 -- the mask with bit k set too; a mask has 32 bits
 unfoldable pub with_bit : ℕ → ℕ → ℕ
 with_bit m k = cond (nat_lt k 32) (bit_or m (2 ^ k)) m
+
+-- the mask without bit k
+unfoldable pub without_bit : ℕ → ℕ → ℕ
+without_bit m k = cond (holds m k) (bit_xor m (2 ^ k)) m
 
 -- the place of the first of the names that are spelt so
 abbrev pub place_of : List Name → List ℕ → Option ℕ

@@ -1,0 +1,9 @@
+mod Totals
+mod Seats
+mod Kept
+mod Steps
+mod Talks
+mod Limits
+mod Standing
+mod Keeping
+mod Standings
