@@ -113,10 +113,10 @@ impl Server {
     }
 
     /// The available names that the client named, by their places, in the order first named.
-    pub fn capabilities(&self) -> &Shared
-        ensures { result.now ≡ self.now.shared }
+    pub fn capabilities(&self) -> Shared
+        ensures { result ≡ self.now.shared }
     {
-        &self.shared
+        self.shared
     }
 
     /// Reads the next request: the text area then holds the command and each pair's key and value one behind the other, and the rows say where.
