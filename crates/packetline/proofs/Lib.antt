@@ -10,3 +10,4 @@ pub mod Pairs
 pub mod Prefixes
 pub mod Texts
 pub mod Trims
+pub mod Pathnames
