@@ -81,6 +81,14 @@ pub holds_without : (m k j : ℕ) → holds (without_bit m k) j ≡ (holds m j &
 unfolding without_bit
 holds_without m k j = holds_unless m k j (holds m k) refl
 
+pub without_bit_lacked : (m k : ℕ) → holds m k ≡ false → m ≡ without_bit m k
+unfolding without_bit
+without_bit_lacked m k h = sym (ap (λ b. cond b (bit_xor m (2 ^ k)) m) h)
+
+pub without_bit_had : (m k : ℕ) → k < 32 → holds m k ≡ true → bit_xor m ((1 * 2 ^ k) % 2 ^ 32) ≡ without_bit m k
+unfolding without_bit
+without_bit_had m k l h = ap (bit_xor m) (one_shl k 32 l) ∙ sym (ap (λ b. cond b (bit_xor m (2 ^ k)) m) h)
+
 -- a mask is known by its bits
 same_odd : (a b : ℕ) → a < 2 → b < 2 → eqb a 1 ≡ eqb b 1 → a ≡ b
 same_odd a b h l e = grind (arith, nat_tests)

@@ -1,6 +1,6 @@
 //! What a process can do: one bit for each desired name.
-ghost use Rattle.std.specs.Prelude.{◌≡◌, ℕ, ◌&&◌, ◌||◌, ◌==◌, nat_lt};
-ghost use Rattle.process.specs.Masks.{holds, with_bit};
+ghost use Rattle.std.specs.Prelude.{◌≡◌, ℕ, ◌<◌, not, ◌&&◌, ◌||◌, ◌==◌, nat_lt, IsTrue};
+ghost use Rattle.process.specs.Masks.{holds, with_bit, without_bit};
 
 /// The desired names that a process named, by their places among the first 32.
 #[derive(Clone, Copy)]
@@ -10,7 +10,8 @@ pub struct Capabilities {
 
 /// Whether bit `k` of a mask is set.
 fn has_bit(mask: u32, k: usize) -> bool
-    ensures { result ≡ holds mask k }
+    ensures value { result ≡ holds mask k }
+    ensures within { IsTrue result → k < 32 }
 {
     if k >= 32 {
         return false;
@@ -29,7 +30,8 @@ impl Capabilities {
 
     /// Whether the name at place `k` is among them.
     pub fn contains(self, k: usize) -> bool
-        ensures { result ≡ holds self.mask k }
+        ensures value { result ≡ holds self.mask k }
+        ensures within { IsTrue result → k < 32 }
     {
         has_bit(self.mask, k)
     }
@@ -44,6 +46,19 @@ impl Capabilities {
         }
         Capabilities {
             mask: self.mask | 1 << k,
+        }
+    }
+
+    /// Without the name at place `k`.
+    pub fn remove(self, k: usize) -> Capabilities
+        ensures value { result.mask ≡ without_bit self.mask k }
+        ensures law { (j : ℕ) → holds result.mask j ≡ (holds self.mask j && not (j == k)) }
+    {
+        if !self.contains(k) {
+            return self;
+        }
+        Capabilities {
+            mask: self.mask ^ (1 << k),
         }
     }
 }

@@ -7,3 +7,4 @@ mod Limits
 mod Standing
 mod Keeping
 mod Standings
+mod Examples

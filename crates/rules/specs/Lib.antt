@@ -5,3 +5,4 @@ pub mod Steps
 pub mod Stories
 pub mod Lives
 pub mod Rules
+pub mod Examples
