@@ -1,8 +1,8 @@
 -- An exchange with a process of a mirror.
-use Rattle.std.proofs.Common.{◌≡◌, ℕ, ◌+◌, ◌-◌, ◌<◌, ◌≤◌, Bool, true, false, cond, leb, ◌&&◌, ◌||◌, ◌⊎◌, List, [], ◌∷◌, ◌++◌, length, take, Some, None, Ok, Err, codes, Option, Result, sym, refl, ap, ◌∙◌, subst, ⊎_elim, arith}
+use Rattle.std.proofs.Common.{◌≡◌, ℕ, ◌+◌, ◌-◌, ◌<◌, ◌≤◌, true, cond, leb, ◌&&◌, ◌||◌, List, [], ◌∷◌, ◌++◌, length, take, Some, None, Ok, Err, codes, Option, Result, sym, refl, ap, ◌∙◌, subst, ⊎_elim, arith}
 use lib.Utf8.{encode}
 use Rattle.std.specs.Str.{bytes_eq, chars}
-use Rattle.std.proofs.lemmas.List.{append-nil, length-append, length-take}
+use Rattle.std.proofs.lemmas.List.{append-nil, length-take}
 use Rattle.std.proofs.lemmas.Bool.{cond-true, and_from, le-leb, cases_lt}
 use Rattle.slices.specs.declared.name.Name.{Name}
 use Rattle.packetline.specs.declared.encode.Error.{Error as Misuse}
@@ -15,8 +15,8 @@ use Rattle.host.specs.declared.fault.LineFault.{LineFault}
 use Rattle.host.specs.declared.call.CallError.{CallError}
 use Rattle.host.specs.declared.call.CallError.TheVariants.{Caller, Line}
 use Rattle.host.specs.Calls.{Checked}
-use Rattle.host.specs.Worlds.{Pipe, live, World, process, with_process}
-use Rattle.host.specs.Talk.{Event, took, gave, noted, Later, Wire, wire, Got, got, then, send_all, read_text, Sight, Areas, areas, Talks}
+use Rattle.host.specs.Worlds.{Pipe, live, World, process}
+use Rattle.host.specs.Talk.{Event, took, gave, noted, Later, Wire, wire, Got, then, send_all, read_text, Sight, Areas, areas, Talks}
 use Rattle.host.proofs.Knowing.{talk_did}
 use Rattle.process.specs.declared.status.Status.{Status}
 use Rattle.process.specs.declared.status.Status.TheVariants.{Previous}
@@ -29,14 +29,14 @@ use Rattle.requests.specs.Stored.{request as asked_request}
 use Rattle.requests.specs.Requests.{with_meta}
 use Rattle.requests.proofs.Holding.{used_push, space_there}
 use Rattle.client.specs.declared.invoke.Meta.{Meta}
-use Rattle.client.specs.Requests.{request, content_packets, invoked, InvokeLaw, invoke_fault, content_then, status_then, as_first}
-use Rattle.client.specs.Results.{Piece, payload, final, read_piece, final_then, as_final}
+use Rattle.client.specs.Requests.{request, invoked, InvokeLaw, invoke_fault, content_then, status_then, as_first}
+use Rattle.client.specs.Results.{payload, final, read_piece, final_then, as_final}
 use Rattle.mirror.specs.Reflecting.{no_blobs, writing_packets, reflection}
 use Rattle.mirror.specs.Stages.{idle, asking, hearing, Move, moves, stands, hears, asked_to}
 use Rattle.mirror.proofs.Saying.{writing_none, writing_some}
 use Rattle.mirror.specs.Worlds.{StandsAt}
 use Rattle.mirrored.specs.Exchanged.{IsFilter, given_back, Asks}
-use Rattle.mirrored.proofs.Coming.{Comes, Settled, settled, comes_done, comes_then, comes_sent, comes_as, comes_more, comes_stop, prefix, at, says, reads_line, reads_flush, reads_text, reads_end}
+use Rattle.mirrored.proofs.Coming.{Comes, Settled, settled, comes_done, comes_then, comes_sent, comes_more, comes_stop, prefix, at, says, reads_line, reads_flush, reads_text, reads_end}
 use Rattle.mirrored.proofs.Shaking.{left_at}
 
 -- a call that went as a talk that is settled
@@ -54,6 +54,14 @@ pub checked_did :
 checked_did fault does same (Ok y) x W none h k = let d = k (Ok y) h.1 in let e = d.0 in let z : y ≡ x = cc in (ap Ok z, d.1)
 checked_did fault does same (Err (Line e)) x W none h k = let d = k (Err e) h.1 in let i = d.0 in let z : ◌≡◌ {A = ℕ} 0 1 = cc in absurd (omega arith)
 checked_did fault does same (Err (Caller c)) x W none h k = let i = sym none ∙ h.0 in let z : ◌≡◌ {A = ℕ} 0 1 = cc in absurd (omega arith)
+
+-- what waits behind the status
+abbrev behind : List ℕ → List Pkt
+behind content = writing_packets content ++ flush ∷ []
+
+behind_is : (content : List ℕ) → length content ≤ 65516 → behind content ≡ given_back content
+behind_is [] h = ap (λ ps. ps ++ flush ∷ []) (writing_none [] refl)
+behind_is (b ∷ content) h = ap (λ ps. ps ++ flush ∷ []) (writing_some (b ∷ content) (omega arith) h)
 
 -- What the server does with the lines of a request
 
@@ -128,12 +136,12 @@ module _ (names : List Name) (content : List ℕ) (n : ℕ) (es : List Event) wh
   status_packets_wait = packets (reflection (Some content))
 
   told_success : (later : Later)
-      → Comes (then (gather read_text status_step Previous (wire (live (at names idle status_packets_wait n)) later es)) as_first) (named (codes "success")) (at names idle (packets (given_back content)) n)
+      → Comes (then (gather read_text status_step Previous (wire (live (at names idle status_packets_wait n)) later es)) as_first) (named (codes "success")) (at names idle (packets (behind content)) n)
       (gave (packet flush) ∷ (noted (codes "success") ∷ (gave (packet (line (codes "status=success"))) ∷ es)))
   told_success later =
       comes_then as_first
-      (comes_more read_text status_step leaves_read_text (reads_text names idle (codes "status=success") _ (flush ∷ given_back content) n later es refl success_text) success_step (λ la.
-      comes_stop read_text status_step leaves_read_text (reads_end names idle (given_back content) n la _) refl)) (λ lb.
+      (comes_more read_text status_step leaves_read_text (reads_text names idle (codes "status=success") _ (flush ∷ behind content) n later es refl success_text) success_step (λ la.
+      comes_stop read_text status_step leaves_read_text (reads_end names idle (behind content) n la _) refl)) (λ lb.
       comes_done (named (codes "success")) _ lb _)
 
 packet_long : (l : List ℕ) → length (packet (line l)) ≡ 4 + length l
@@ -184,7 +192,7 @@ module _ (names : List Name) (c path content : List ℕ) (ms : List Meta) (filte
       comes_then _ (says names (asking q.0) (n - size₁ - size₂) flush 4 _ lb _ refl refl (omega arith) (hears_end names q.0 c q.1 filter)) (λ lc.
       comes_done tt _ lc _))))
 
-  asks_some : 0 < length content → Settled (invoked c ms content) (at names idle [] n) (named (codes "success")) (at names idle (packets (given_back content)) (left - length (packet (line content)) - 4))
+  asks_some : 0 < length content → Settled (invoked c ms content) (at names idle [] n) (named (codes "success")) (at names idle (packets (behind content)) (left - length (packet (line content)) - 4))
   asks_some some =
       let s = sizes in
       let b = packet_long content in
@@ -197,7 +205,7 @@ module _ (names : List Name) (c path content : List ℕ) (ms : List Meta) (filte
       comes_done tt _ lb _)))) (λ l2.
       told_success names content _ _ l2)))
 
-  asks_none : length content ≡ 0 → Settled (invoked c ms content) (at names idle [] n) (named (codes "success")) (at names idle (packets (given_back content)) (left - 4))
+  asks_none : length content ≡ 0 → Settled (invoked c ms content) (at names idle [] n) (named (codes "success")) (at names idle (packets (behind content)) (left - 4))
   asks_none none =
       let s = sizes in
       let e : content ≡ [] = empty_is content none in
@@ -213,7 +221,7 @@ module _ (names : List Name) (c path content : List ℕ) (ms : List Meta) (filte
       empty_is [] h = refl
       empty_is (x ∷ xs) h = absurd (omega arith)
 
-  pub asks : (m : ℕ) × (n ≤ m + 9000) × Settled (invoked c ms content) (at names idle [] n) (named (codes "success")) (at names idle (packets (given_back content)) m)
+  pub asks : (m : ℕ) × (n ≤ m + 9000) × Settled (invoked c ms content) (at names idle [] n) (named (codes "success")) (at names idle (packets (behind content)) m)
   asks =
       let s = sizes in
       let b = packet_long content in
@@ -230,7 +238,7 @@ asks_so w p work status c path content ms w' work' status' same r h lines names 
     let a = asks names c path content ms filter small few n room lines in
     let does = λ (x : Result Status LineFault). TalksBy (InvokeLaw c ms content) (invoked c ms content) w p (areas work status) x w' (areas work' status') in
     let d =
-        checked_did (invoke_fault work status c ms) does same r (named (codes "success")) (StandsAt w'.world p names idle (packets (given_back content)) a.0)
-        (may_ask names c path content ms filter small few n room lines work status rooms) h
-        (λ y (t : does y). settled_did t.0 (at names idle [] n) (named (codes "success")) (at names idle (packets (given_back content)) a.0) here a.2) in
-    (d.0, (a.0, a.1, d.1))
+    checked_did (invoke_fault work status c ms) does same r (named (codes "success")) (StandsAt w'.world p names idle (packets (behind content)) a.0)
+    (may_ask names c path content ms filter small few n room lines work status rooms) h
+    (λ y (t : does y). settled_did t.0 (at names idle [] n) (named (codes "success")) (at names idle (packets (behind content)) a.0) here a.2) in
+    (d.0, (a.0, a.1, d.1 ∙ ap (λ ps. live (at names idle (packets ps) a.0)) (behind_is content (omega arith))))

@@ -12,7 +12,6 @@ use Rattle.process.specs.declared.status.Status.TheVariants.{Previous}
 use Rattle.process.specs.Given.{have_room}
 use Rattle.process.specs.Statuses.{named}
 use Rattle.client.specs.Results.{Piece, payload, final}
-use Rattle.mirror.specs.Reflecting.{writing_packets}
 use Rattle.mirror.specs.Stages.{idle}
 use Rattle.mirror.specs.Worlds.{StandsAt}
 
@@ -24,9 +23,10 @@ IsFilter c = (c ≡ codes "clean") ⊎ (c ≡ codes "smudge")
 abbrev pub asked_lines : List ℕ → List ℕ → List Pkt
 asked_lines command pathname = line (codes "command=" ++ command) ∷ line (codes "pathname=" ++ pathname) ∷ flush ∷ []
 
--- what waits behind the status: the content as it came, and no other status
+-- what waits behind the status: the content as it came in a packet, none for no content, its flush, and no other status
 abbrev pub given_back : List ℕ → List Pkt
-given_back content = writing_packets content ++ flush ∷ []
+given_back [] = flush ∷ flush ∷ []
+given_back (b ∷ content) = line (b ∷ content) ∷ flush ∷ flush ∷ []
 
 -- A process that stands idle is asked to clean or to smudge content of at most 4,096 bytes, for a pathname of at most 4,096 bytes: it answers success, stands
 -- idle, and the content waits. At most 9,000 bytes are sent.

@@ -3,7 +3,6 @@ use Rattle.std.proofs.lemmas.Bool.{cond-true}
 use Rattle.packetline.specs.Packets.{flush, line, packets}
 use Rattle.host.specs.declared.fault.LineFault.{LineFault}
 use Rattle.host.specs.Talk.{sight, areas}
-use Rattle.host.specs.declared.call.AreaTooShort.{AreaTooShort}
 use Rattle.process.specs.Given.{have_room, rooms, TalksBy}
 use Rattle.process.specs.declared.status.Status.TheVariants.{Previous}
 use Rattle.client.specs.Results.{Piece, payload, final, read_piece, PieceLaw}
@@ -17,7 +16,7 @@ pub returns : goal.returns
 returns c =
     let none = λ (h : have_room c.args.work.now c.args.status.now ≡ true). cond-true (have_room c.args.work.now c.args.status.now) None _ h in
     let does = λ (x : Result Piece LineFault).
-        TalksBy PieceLaw read_piece (sight None (world_of c.args.mirror.now)) c.args.client.process (areas c.args.work.now c.args.status.now) x (sight None (world_of c.read.new.host)) (areas c.read.new.work c.read.new.status) in
+    TalksBy PieceLaw read_piece (sight None (world_of c.args.mirror.now)) c.args.client.process (areas c.args.work.now c.args.status.now) x (sight None (world_of c.read.new.host)) (areas c.read.new.work c.read.new.status) in
     record {
       content = λ names n x here ok h.
           checked_did (rooms c.args.work.now c.args.status.now) does _ _ (payload x) (StandsAt (world_of c.read.new.host) c.args.client.process names idle (packets (flush ∷ flush ∷ [])) n) (none h) c.read.ensures.goes
