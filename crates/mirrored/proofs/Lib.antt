@@ -1,3 +1,4 @@
 pub mod Coming
 pub mod Hearing
 pub mod Shaking
+pub mod Exchanging
