@@ -9,3 +9,4 @@ pub mod Keeping
 pub mod Standings
 pub mod Examples
 pub mod Talking
+pub mod Making
