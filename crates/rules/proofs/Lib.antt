@@ -1,10 +1,12 @@
-mod Totals
-mod Seats
-mod Kept
-mod Steps
-mod Talks
-mod Limits
-mod Standing
-mod Keeping
-mod Standings
-mod Examples
+pub mod Totals
+pub mod Seats
+pub mod Kept
+pub mod Steps
+pub mod Talks
+pub mod Limits
+pub mod Standing
+pub mod Keeping
+pub mod Standings
+pub mod Examples
+pub mod Talking
+pub mod Making

@@ -1,0 +1,38 @@
+-- What a call on a table promises: it is one step of the table, over the host that it was made on.
+use Rattle.std.specs.Prelude.{◌≡◌, ℕ, Bool, List, [], ◌∷◌, ◌++◌, Some, None, Ok, Err}
+use Rattle.host.specs.declared.fault.NotStarted.{NotStarted}
+use Rattle.host.specs.Acts.{Act, starting, ending, Grows}
+use Rattle.host.specs.Talk.{Event, Areas, lay, Acted, Sight}
+use Rattle.records.specs.Places.{Place}
+use Rattle.rules.specs.Calls.{Call, Turn}
+use Rattle.rules.specs.Answers.{Answer}
+use Rattle.rules.specs.Steps.{state, Deed, starts, talks, ends, step}
+
+-- these acts of a host, the latest first, are those deeds
+abbrev pub Done : List Deed → List Act → Type 0
+Done [] acts = acts ≡ []
+Done (starts command (Some n) ∷ ds) acts = (rest : List Act) × (acts ≡ starting command (Ok n) ∷ rest) × Done ds rest
+Done (starts command None ∷ ds) acts = (e : NotStarted) × ((rest : List Act) × (acts ≡ starting command (Err e) ∷ rest) × Done ds rest)
+Done (talks p es bytes ∷ ds) acts = (own : List Act) × ((rest : List Act) × (acts ≡ own ++ rest) × Acted p es own × Done ds rest)
+Done (ends p how ∷ ds) acts = (rest : List Act) × (acts ≡ ending p how ∷ rest) × Done ds rest
+
+-- what passed, the latest first; a call talks with one process at most
+abbrev pub passes : List Deed → List Event
+passes [] = []
+passes (starts command n ∷ ds) = passes ds
+passes (talks p es bytes ∷ ds) = es ++ passes ds
+passes (ends p how ∷ ds) = passes ds
+
+-- A call answered r: there is a turn of this call, with areas as long as these are, whose step gives this answer, this table and this host, lays the areas
+-- as the overlay rule leaves them, and did what the host's log, if it keeps one, has grown by. So any life that reached the table and the host before
+-- goes on, by this turn, to one that reached them after.
+pub record IsStep (capacity : ℕ) (c : Call) (has_room : Bool) (table : List Place) (w : Sight) (a : Areas) (r : Answer) (table' : List Place) (w' : Sight) (a' : Areas) : Type 0 where
+  pub turn : Turn
+  pub is_of : turn.call ≡ c
+  pub room_is : turn.has_room ≡ has_room
+  pub answers : (step capacity turn (state table w.world)).answer ≡ r
+  pub reaches : (step capacity turn (state table w.world)).after ≡ state table' w'.world
+  pub laid : a' ≡ lay (passes (step capacity turn (state table w.world)).deeds) a
+  pub acts : List Act
+  pub done : Done (step capacity turn (state table w.world)).deeds acts
+  pub grows : Grows w.log acts w'.log
