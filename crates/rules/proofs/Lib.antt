@@ -10,3 +10,4 @@ pub mod Standings
 pub mod Examples
 pub mod Talking
 pub mod Making
+pub mod Starting
