@@ -2,6 +2,7 @@
 use Rattle.std.proofs.Common.{◌≡◌, ℕ, Bool, true, false, cond, ◌&&◌, List, [], ◌∷◌, ◌++◌, length, Some, None, Ok, Err, codes, Option, Result, sym, refl, ap, ◌∙◌, subst}
 use Rattle.std.specs.Prelude.{unwrap_or, slice_index_or}
 use Rattle.std.proofs.lemmas.List.{append_assoc, append-nil, get_or_push, set-set}
+use Rattle.packetline.specs.Packets.{Pkt}
 use Rattle.host.specs.declared.fault.LineFault.{LineFault}
 use Rattle.host.specs.declared.host.How.{How}
 use Rattle.host.specs.declared.host.How.TheVariants.{Close}
@@ -112,3 +113,85 @@ module _ (capacity : ℕ) (table : List Place) (k : Key) (op : Operation) (asked
         (passed_so.acts ++ starting (key_bytes k) (Ok (length w.world.procs)) ∷ [], refl, (passed_so.acts, (starting (key_bytes k) (Ok (length w.world.procs)) ∷ [], refl, acted_so, ([], refl, refl))))
         (grows_then w.log wₑ.log w₂.log (passed_so.acts ++ starting (key_bytes k) (Ok (length w.world.procs)) ∷ []) (ending r.process how ∷ [])
         (grows_then w.log w₁.log wₑ.log (starting (key_bytes k) (Ok (length w.world.procs)) ∷ []) passed_so.acts began passed_so.grows) grown)
+
+  -- Which step it is: the handshake went so, over names that spell what the table desires
+  module _ {f : Wire → Got (Result Shaken ℕ)} (alike : (v : Wire) → f v ≡ greeting v) {a : Areas} {x : Result (Result Shaken ℕ) LineFault} {w₂ : Sight} {a₂ : Areas} (t : Talks f w₁ (length w.world.procs) a x w₂ a₂)
+      (l₂ : Later) (later : l ≡ (talk_later f t l₂).0) where
+    greets_so : (y : Result (Result Shaken ℕ) LineFault) → x ≡ y
+        → step capacity U (state table w.world)
+        ≡ first_of_all (starts (key_bytes k) (Some (length w.world.procs))) (after_handshake U (state table w.world) k op asked (ends y (wire (process w₂.world (length w.world.procs)) l₂ t.events)))
+    greets_so y is =
+        begins
+        ∙ ap (λ g. first_of_all (starts (key_bytes k) (Some (length w.world.procs))) (after_handshake U (state table w.world) k op asked g))
+        (sym (alike (wire (live q) l [])) ∙ ap (λ z. f (wire z l [])) (sym its_process) ∙ ap (λ m. f (wire (process w₁.world (length w.world.procs)) m [])) later ∙ (talk_later f t l₂).1
+        ∙ ap (λ z. ends z (wire (process w₂.world (length w.world.procs)) l₂ t.events)) is)
+
+    -- a line fault in the handshake
+    pub handshake_faults : (e : LineFault) → x ≡ Err e
+        → step capacity U (state table w.world)
+        ≡ first_of_all (starts (key_bytes k) (Some (length w.world.procs)))
+        (settle_by U (started U w.world) (new_seat table q (newcomer_record k (length w.world.procs) 0 0)) (wire (process w₂.world (length w.world.procs)) l₂ t.events) (fault e) (leaves Close))
+    handshake_faults e is = greets_so (Err e) is
+
+    -- the process said what it must not
+    pub handshake_refused : (n : ℕ) → x ≡ Ok (Err n)
+        → step capacity U (state table w.world)
+        ≡ first_of_all (starts (key_bytes k) (Some (length w.world.procs)))
+        (settle_by U (started U w.world) (new_seat table q (newcomer_record k (length w.world.procs) 0 0)) (wire (process w₂.world (length w.world.procs)) l₂ t.events) (refused n) (leaves Close))
+    handshake_refused n is = greets_so (Ok (Err n)) is
+
+    module _ (s : Shaken) (is : x ≡ Ok (Ok s)) where
+      Newcomer : Record
+      Newcomer = newcomer_record k (length w.world.procs) s.version s.mask
+
+      its_seat_is : Seat
+      its_seat_is = new_seat table q (newcomer_record k (length w.world.procs) s.version s.mask)
+
+      abbrev Lines : List Pkt
+      Lines = request_for op asked.rela_path (asked_lines asked (may_delay asked.delay && can_delay (record { mask = s.mask })))
+
+      abbrev Right : Status → Verdict
+      Right st = after_exchange (length w.world.procs) op s.mask (delayed_if (may_delay asked.delay && can_delay (record { mask = s.mask })) s.mask) st
+
+      Whether : Bool → Outcome
+      Whether z =
+          first_of_all (starts (key_bytes k) (Some (length w.world.procs)))
+          (cond z
+          (conclude U (started U w.world) (new_seat table q (newcomer_record k (length w.world.procs) s.version s.mask))
+          (exchange Lines asked.content (wire (process w₂.world (length w.world.procs)) l₂ t.events)) (λ st _. Right st) (after_fault s.mask))
+          (settle U (started U w.world) (new_seat table q (newcomer_record k (length w.world.procs) s.version s.mask)) (wire (process w₂.world (length w.world.procs)) l₂ t.events) (verdict passed (stays s.mask None))))
+
+      -- it cannot do the operation
+      pub apply_passes : can_do op (record { mask = s.mask }) ≡ false
+          → step capacity U (state table w.world)
+          ≡ first_of_all (starts (key_bytes k) (Some (length w.world.procs)))
+          (settle_by U (started U w.world) (new_seat table q (newcomer_record k (length w.world.procs) s.version s.mask)) (wire (process w₂.world (length w.world.procs)) l₂ t.events) passed (stays s.mask None))
+      unfolding Whether
+      apply_passes cannot = greets_so (Ok (Ok s)) is ∙ ap Whether cannot
+
+      -- it can, and an exchange followed
+      module _ {y : Result Status LineFault} {w₃ : Sight} {a₃ : Areas} (u : Talks (exchange Lines asked.content) w₂ (length w.world.procs) a₂ y w₃ a₃) (rest : Later) (meets : l₂ ≡ (u.goes rest).0) where
+        abbrev pub Verdict_then : Result Status LineFault → Verdict
+        Verdict_then (Ok st) = Right st
+        Verdict_then (Err e) = verdict (fault e) (after_fault s.mask e)
+
+        ends_then : (z : Result Status LineFault)
+            → conclude U (started U w.world) (new_seat table q (newcomer_record k (length w.world.procs) s.version s.mask))
+            (ends z (wire (process w₃.world (length w.world.procs)) rest (u.events ++ t.events))) (λ st _. Right st) (after_fault s.mask)
+            ≡ settle U (started U w.world) (new_seat table q (newcomer_record k (length w.world.procs) s.version s.mask)) (wire (process w₃.world (length w.world.procs)) rest (u.events ++ t.events)) (Verdict_then z)
+        ends_then (Ok st) = refl
+        ends_then (Err e) = refl
+
+        pub apply_goes : can_do op (record { mask = s.mask }) ≡ true → (answer : Answer) (fate : Fate) → Verdict_then y ≡ verdict answer fate
+            → step capacity U (state table w.world)
+            ≡ first_of_all (starts (key_bytes k) (Some (length w.world.procs)))
+            (settle_by U (started U w.world) (new_seat table q (newcomer_record k (length w.world.procs) s.version s.mask)) (wire (process w₃.world (length w.world.procs)) rest (u.events ++ t.events)) answer fate)
+        unfolding Whether
+        apply_goes can_it answer fate v =
+            greets_so (Ok (Ok s)) is ∙ ap Whether can_it
+            ∙ ap (λ g. first_of_all (starts (key_bytes k) (Some (length w.world.procs)))
+            (conclude U (started U w.world) (new_seat table q (newcomer_record k (length w.world.procs) s.version s.mask)) g (λ st _. Right st) (after_fault s.mask)))
+            (ap (λ m. exchange Lines asked.content (wire (process w₂.world (length w.world.procs)) m t.events)) meets ∙ (u.goes rest).1 t.events)
+            ∙ ap (first_of_all (starts (key_bytes k) (Some (length w.world.procs)))) (ends_then y)
+            ∙ ap (λ d. first_of_all (starts (key_bytes k) (Some (length w.world.procs)))
+            (settle U (started U w.world) (new_seat table q (newcomer_record k (length w.world.procs) s.version s.mask)) (wire (process w₃.world (length w.world.procs)) rest (u.events ++ t.events)) d)) v
