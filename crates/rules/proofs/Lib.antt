@@ -11,3 +11,4 @@ pub mod Examples
 pub mod Talking
 pub mod Making
 pub mod Starting
+pub mod Living
