@@ -12,3 +12,4 @@ pub mod Talking
 pub mod Making
 pub mod Starting
 pub mod Living
+pub mod Refusing
