@@ -13,3 +13,4 @@ pub mod Making
 pub mod Starting
 pub mod Living
 pub mod Refusing
+pub mod Closing

@@ -1,7 +1,7 @@
 -- Calls that are steps, one behind the other, are a life.
-use Rattle.std.proofs.Common.{◌≡◌, ℕ, Bool, List, [], ◌∷◌, ◌++◌, map, replicate, Some, None, sym, refl, ap, ◌∙◌, subst}
+use Rattle.std.proofs.Common.{◌≡◌, ℕ, Bool, List, [], ◌∷◌, ◌++◌, replicate, Some, None, sym, refl, ap, ◌∙◌, subst}
 use Rattle.std.proofs.lemmas.List.{append_assoc, append-nil, map_push}
-use Rattle.host.specs.Acts.{Act, Grows}
+use Rattle.host.specs.Acts.{Act}
 use Rattle.host.specs.Talk.{Areas, Sight}
 use Rattle.host.proofs.Logging.{grows_none, grows_then}
 use Rattle.records.specs.Places.{Place}

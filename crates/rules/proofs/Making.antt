@@ -1,21 +1,20 @@
 -- A call that talks with a recorded process is a step, once its talk is known.
-use Rattle.std.proofs.Common.{◌≡◌, ℕ, Bool, true, false, cond, not, ◌&&◌, List, [], ◌∷◌, ◌++◌, Some, None, Ok, Err, Option, Result, sym, refl, ap, ◌∙◌, subst}
+use Rattle.std.proofs.Common.{◌≡◌, ℕ, Bool, true, false, cond, not, ◌&&◌, List, [], ◌∷◌, Some, Ok, Err, Option, Result, sym, refl, ap, ◌∙◌, subst}
 use Rattle.std.proofs.lemmas.List.{append-nil}
 use Rattle.host.specs.declared.fault.LineFault.{LineFault}
 use Rattle.host.specs.declared.host.How.{How}
-use Rattle.host.specs.Worlds.{Process, gone, live, World, process, with_process}
+use Rattle.host.specs.Worlds.{Process, gone, live, World, process}
 use Rattle.host.specs.Acts.{Act, ending, Grows, Ended}
-use Rattle.host.specs.Talk.{Event, Areas, lay, Later, Wire, wire, Got, got, lost, ends, Acted, Sight, Talks}
+use Rattle.host.specs.Talk.{Areas, lay, Later, Wire, wire, Got, ends, Sight, Talks}
 use Rattle.host.proofs.Logging.{grows_then}
-use Rattle.process.specs.declared.status.Status.{Status}
 use Rattle.records.specs.declared.key.Key.{Key}
 use Rattle.records.specs.declared.operation.Operation.{Operation}
 use Rattle.records.specs.declared.record.Record.{Record}
 use Rattle.records.specs.Places.{Place}
 use Rattle.records.specs.Records.{lookup, is_reading, reading_by, without, changed}
-use Rattle.rules.specs.Calls.{Call, fetch, list, read, is_within, needs_areas, Turn}
+use Rattle.rules.specs.Calls.{Call, is_within, needs_areas, Turn}
 use Rattle.rules.specs.Answers.{Answer, fault}
-use Rattle.rules.specs.Steps.{Fate, stays, leaves, Verdict, verdict, State, state, Deed, talks, ends as ends_it, Outcome, refuse, ended_as, ended, Seat, its_seat, comes, seated, settle_by, settle, conclude, line_to, fetch_at, list_at, read_at, unless_reading, fetch_from, list_from, read_from, act, step}
+use Rattle.rules.specs.Steps.{Fate, stays, leaves, Verdict, verdict, State, state, Outcome, refuse, ended_as, ended, its_seat, seated, settle_by, settle, conclude, line_to, fetch_at, list_at, read_at, fetch_from, list_from, read_from, act, step}
 use Rattle.rules.specs.Promises.{Done, passes, IsStep}
 use Rattle.rules.proofs.Talking.{talk_later, talk_world}
 

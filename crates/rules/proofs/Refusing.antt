@@ -1,10 +1,9 @@
 -- Refused calls are steps that change nothing; giving up is a step; when a place is free.
-use Rattle.std.proofs.Common.{◌≡◌, ℕ, suc, ◌+◌, ◌<◌, ◌≤◌, Bool, true, false, cond, not, ◌&&◌, List, [], ◌∷◌, ◌++◌, map, length, Some, None, Ok, Err, Option, Result, sym, refl, ap, ◌∙◌, subst, arith}
+use Rattle.std.proofs.Common.{◌≡◌, ℕ, ◌<◌, ◌≤◌, true, false, cond, not, ◌&&◌, List, [], ◌∷◌, map, length, Some, None, Ok, Err, Option, sym, refl, ap, ◌∙◌, arith}
 use Rattle.std.specs.Prelude.{unwrap_or, ok_or, is_some, if◌then◌else◌}
 use Rattle.std.specs.List.{list_any}
 use Rattle.host.specs.declared.fault.NotStarted.{NotStarted}
 use Rattle.host.specs.declared.host.How.TheVariants.{Kill}
-use Rattle.host.specs.Worlds.{World}
 use Rattle.host.specs.Acts.{can_start, starting, ending, Grows, Ended}
 use Rattle.host.specs.Talk.{Areas, Sight}
 use Rattle.host.proofs.Logging.{grows_none}
@@ -14,9 +13,9 @@ use Rattle.records.specs.declared.record.Record.{Record}
 use Rattle.records.specs.Keys.{key_bytes}
 use Rattle.records.specs.Places.{Place}
 use Rattle.records.specs.Records.{held, lookup, is_reading, reading_by, without, changed, put_first_free, inserted}
-use Rattle.rules.specs.Calls.{Asked, Call, is_within, needs_areas, Turn}
+use Rattle.rules.specs.Calls.{Asked, is_within, needs_areas, Turn}
 use Rattle.rules.specs.Answers.{done, refused}
-use Rattle.rules.specs.Steps.{State, state, starts, ends, Outcome, outcome, refuse, after_handshake, greeting, first_of_all, has_free, begin, unless_reading, apply_to, fetch_from, list_from, read_from, give_up_at, ended, closed, closings, close, act, step}
+use Rattle.rules.specs.Steps.{State, state, starts, Outcome, outcome, refuse, after_handshake, greeting, first_of_all, has_free, unless_reading, apply_to, fetch_from, list_from, read_from, give_up_at, ended, closed, closings, close, act, step}
 use Rattle.host.specs.Worlds.{live}
 use Rattle.host.specs.Talk.{wire}
 use Rattle.rules.specs.Promises.{IsStep}

@@ -1,14 +1,14 @@
 -- An apply for an unknown key is a step, once the start, the handshake and the exchange are known.
-use Rattle.std.proofs.Common.{◌≡◌, ℕ, Bool, true, false, cond, ◌&&◌, List, [], ◌∷◌, ◌++◌, length, Some, None, Ok, Err, codes, Option, Result, sym, refl, ap, ◌∙◌, subst}
+use Rattle.std.proofs.Common.{◌≡◌, ℕ, Bool, true, false, cond, ◌&&◌, List, [], ◌∷◌, ◌++◌, length, Some, None, Ok, Err, Option, Result, sym, refl, ap, ◌∙◌, subst}
 use Rattle.std.specs.Prelude.{unwrap_or, slice_index_or}
-use Rattle.std.proofs.lemmas.List.{append_assoc, append-nil, get_or_push, set-set}
+use Rattle.std.proofs.lemmas.List.{append-nil, get_or_push, set-set}
 use Rattle.packetline.specs.Packets.{Pkt}
 use Rattle.host.specs.declared.fault.LineFault.{LineFault}
 use Rattle.host.specs.declared.host.How.{How}
 use Rattle.host.specs.declared.host.How.TheVariants.{Close}
-use Rattle.host.specs.Worlds.{Pipe, Process, gone, live, World, process, with_process}
+use Rattle.host.specs.Worlds.{Pipe, gone, live, process, with_process}
 use Rattle.host.specs.Acts.{can_start, Act, starting, ending, Grows, Ended}
-use Rattle.host.specs.Talk.{Event, Areas, lay, Later, Wire, wire, Got, got, lost, ends, Acted, Sight, Talks}
+use Rattle.host.specs.Talk.{Event, Areas, lay, Later, Wire, wire, Got, ends, Acted, Sight, Talks}
 use Rattle.host.proofs.Logging.{grows_then}
 use Rattle.host.proofs.Talking.{lay_append, acted_append}
 use Rattle.process.specs.declared.status.Status.{Status}
@@ -20,10 +20,10 @@ use Rattle.records.specs.Keys.{key_bytes}
 use Rattle.records.specs.Places.{Place}
 use Rattle.records.specs.Records.{lookup, put_first_free}
 use Rattle.rules.specs.Names.{can_do, can_delay}
-use Rattle.rules.specs.Calls.{Asked, may_delay, Call, apply, asks_within, Turn}
+use Rattle.rules.specs.Calls.{Asked, may_delay, apply, asks_within, Turn}
 use Rattle.rules.specs.Answers.{Answer, passed, fault, refused}
-use Rattle.rules.specs.Steps.{asked_lines, request_for, exchange, Fate, stays, leaves, Verdict, verdict, after_fault, after_exchange, delayed_if, State, state, Deed, starts, talks, ends as ends_it, Outcome, outcome, refuse, ended_as, ended, Seat, new_seat, seated, settle_by, settle, conclude, apply_at, newcomer_record, started, after_handshake, greeting, first_of_all, has_free, begin, apply_to, step}
-use Rattle.rules.specs.Promises.{Done, passes, IsStep}
+use Rattle.rules.specs.Steps.{asked_lines, request_for, exchange, Fate, stays, leaves, Verdict, verdict, after_fault, after_exchange, delayed_if, state, starts, Outcome, outcome, refuse, ended, Seat, new_seat, seated, settle_by, settle, conclude, newcomer_record, started, after_handshake, greeting, first_of_all, has_free, apply_to, step}
+use Rattle.rules.specs.Promises.{IsStep}
 use Rattle.rules.proofs.Talking.{talk_later}
 use Rattle.rules.proofs.Making.{step_acts, is_step_by, ended_to}
 

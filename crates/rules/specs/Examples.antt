@@ -13,8 +13,7 @@ use Rattle.records.specs.declared.context.Delay.TheVariants.{Allow, Forbid}
 use Rattle.records.specs.declared.key.Key.{Key}
 use Rattle.records.specs.declared.operation.Operation.TheVariants.{Clean, Smudge}
 use Rattle.rules.specs.Calls.{Asked, Call, apply, fetch, list, read, close_all, Turn}
-use Rattle.rules.specs.Answers.{Answer, passed, delayed, result, payload, finished, paths, done, failed, unfinished}
-use Rattle.rules.specs.Steps.{state, step}
+use Rattle.rules.specs.Answers.{passed, delayed, result, payload, finished, paths, done, failed, unfinished}
 use Rattle.rules.specs.Stories.{all_given, all_sent, lists, exchanges, results, open_count, aborted, stray_applies}
 use Rattle.rules.specs.Lives.{Life, first_life, run, answers_of, is_open}
 
