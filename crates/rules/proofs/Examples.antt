@@ -16,10 +16,10 @@ use Rattle.records.specs.declared.operation.Operation.TheVariants.{Clean, Smudge
 use Rattle.rules.specs.Names.{desired_names}
 use Rattle.rules.specs.Answers.{passed, delayed, result, payload, finished, paths, done, failed, unfinished}
 use Rattle.rules.specs.Stories.{all_given, all_sent, lists, exchanges, results, open_count, aborted, stray_applies}
-use Rattle.rules.specs.Lives.{run, is_open}
-use Rattle.rules.specs.Examples.{lfs, welcome, playing, by, empty, answers, asks, delaying, delayed_calls, aborting, aborted_calls, ExamplesStand}
+use Rattle.rules.specs.Lives.{run, answers_of, is_open}
+use Rattle.rules.specs.Examples.{lfs, welcome, playing, by, empty, asks, delaying, delayed_calls, aborting, aborted_calls, ExamplesStand}
 
-delayed_answers : answers delayed_calls empty ≡ delayed ∷ paths (record { named = 1; stored = 1; full = false }) ∷ result 0 ∷ payload (codes "hello") ∷ finished ∷ []
+delayed_answers : answers_of 16 delayed_calls empty ≡ delayed ∷ paths (record { named = 1; stored = 1; full = false }) ∷ result 0 ∷ payload (codes "hello") ∷ finished ∷ []
 unfolding lfs welcome playing by empty asks delaying delayed_calls aborting aborted_calls desired_names front decode after_prefix utf8 trim_end is_number encode chars gather parts with_bit without_bit digits
 delayed_answers = refl
 
@@ -35,7 +35,7 @@ went : flushes (all_sent ((run 16 delayed_calls empty).book 0)) ≡ 7
 unfolding lfs welcome playing by empty asks delaying delayed_calls aborting aborted_calls desired_names front decode after_prefix utf8 trim_end is_number encode chars gather parts with_bit without_bit digits
 went = refl
 
-aborted_answers : answers aborted_calls empty ≡ result 0 ∷ payload (codes "hello") ∷ unfinished (Named Abort 5) ∷ passed ∷ failed (Named Error 5) ∷ done ∷ []
+aborted_answers : answers_of 16 aborted_calls empty ≡ result 0 ∷ payload (codes "hello") ∷ unfinished (Named Abort 5) ∷ passed ∷ failed (Named Error 5) ∷ done ∷ []
 unfolding lfs welcome playing by empty asks delaying delayed_calls aborting aborted_calls desired_names front decode after_prefix utf8 trim_end is_number encode chars gather parts with_bit without_bit digits
 aborted_answers = refl
 

@@ -10,3 +10,7 @@ pub mod Standings
 pub mod Examples
 pub mod Talking
 pub mod Making
+pub mod Starting
+pub mod Living
+pub mod Refusing
+pub mod Closing

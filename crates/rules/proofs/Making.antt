@@ -1,21 +1,20 @@
 -- A call that talks with a recorded process is a step, once its talk is known.
-use Rattle.std.proofs.Common.{◌≡◌, ℕ, Bool, true, false, cond, not, ◌&&◌, List, [], ◌∷◌, ◌++◌, Some, None, Ok, Err, Option, Result, sym, refl, ap, ◌∙◌, subst}
+use Rattle.std.proofs.Common.{◌≡◌, ℕ, Bool, true, false, cond, not, ◌&&◌, List, [], ◌∷◌, Some, Ok, Err, Option, Result, sym, refl, ap, ◌∙◌, subst}
 use Rattle.std.proofs.lemmas.List.{append-nil}
 use Rattle.host.specs.declared.fault.LineFault.{LineFault}
 use Rattle.host.specs.declared.host.How.{How}
-use Rattle.host.specs.Worlds.{Process, gone, live, World, process, with_process}
+use Rattle.host.specs.Worlds.{Process, gone, live, World, process}
 use Rattle.host.specs.Acts.{Act, ending, Grows, Ended}
-use Rattle.host.specs.Talk.{Event, Areas, lay, Later, Wire, wire, Got, got, lost, ends, Acted, Sight, Talks}
+use Rattle.host.specs.Talk.{Areas, lay, Later, Wire, wire, Got, ends, Sight, Talks}
 use Rattle.host.proofs.Logging.{grows_then}
-use Rattle.process.specs.declared.status.Status.{Status}
 use Rattle.records.specs.declared.key.Key.{Key}
 use Rattle.records.specs.declared.operation.Operation.{Operation}
 use Rattle.records.specs.declared.record.Record.{Record}
 use Rattle.records.specs.Places.{Place}
 use Rattle.records.specs.Records.{lookup, is_reading, reading_by, without, changed}
-use Rattle.rules.specs.Calls.{Call, fetch, list, read, is_within, needs_areas, Turn}
+use Rattle.rules.specs.Calls.{Call, is_within, needs_areas, Turn}
 use Rattle.rules.specs.Answers.{Answer, fault}
-use Rattle.rules.specs.Steps.{Fate, stays, leaves, Verdict, verdict, State, state, Deed, talks, ends as ends_it, Outcome, refuse, ended_as, ended, Seat, its_seat, comes, seated, settle_by, settle, conclude, line_to, fetch_at, list_at, read_at, unless_reading, fetch_from, list_from, read_from, act, step}
+use Rattle.rules.specs.Steps.{Fate, stays, leaves, Verdict, verdict, State, state, Outcome, refuse, ended_as, ended, its_seat, seated, settle_by, settle, conclude, line_to, fetch_at, list_at, read_at, fetch_from, list_from, read_from, act, step}
 use Rattle.rules.specs.Promises.{Done, passes, IsStep}
 use Rattle.rules.proofs.Talking.{talk_later, talk_world}
 
@@ -40,9 +39,17 @@ list_acts t s k rows room r found idle = ap (list_from t s rows room) found ∙ 
 pub read_acts : (t : Turn) (s : State) (p : ℕ) (r : Record) → reading_by s.table p ≡ Some r → read_from t s (reading_by s.table p) ≡ read_at t s r r.reading
 read_acts t s p r found = ap (read_from t s) found
 
+-- a process was ended, as a host promises it
+ended_by : (w : World) (p : ℕ) (w' : World) (y : Process) → process w p ≡ y → Ended w p w' → ended_as w'.startable w p y ≡ w'
+ended_by w p w' gone e d = sym (d.stays e)
+ended_by w p w' (live q) e d = λ j. record { procs = sym (d.closes q e) j; startable = w'.startable }
+
+pub ended_to : (w : World) (p : ℕ) (w' : World) → Ended w p w' → ended w'.startable w p ≡ w'
+ended_to w p w' d = ended_by w p w' (process w p) refl d
+
 -- A step by its outcome
 
-is_step_by : {capacity : ℕ} {c : Call} {room : Bool} {table : List Place} {w : Sight} {a : Areas} {r : Answer} {table' : List Place} {w' : Sight} {a' : Areas} (t : Turn)
+pub is_step_by : {capacity : ℕ} {c : Call} {room : Bool} {table : List Place} {w : Sight} {a : Areas} {r : Answer} {table' : List Place} {w' : Sight} {a' : Areas} (t : Turn)
     → t.call ≡ c → t.has_room ≡ room → (o : Outcome) → step capacity t (state table w.world) ≡ o → o.answer ≡ r → o.after ≡ state table' w'.world → a' ≡ lay (passes o.deeds) a
     → (acts : List Act) → Done o.deeds acts → Grows w.log acts w'.log → IsStep capacity c room table w a r table' w' a'
 is_step_by {a = a} t is room o e answers reaches laid acts done grows = record {
@@ -101,16 +108,12 @@ module _ {A : Type 0} (f : Wire → Got A) (table : List Place) (r : Record) {w 
           t.acts (t.acts, ([], sym (append-nil t.acts), t.acted, refl)) t.grows
 
       -- the record leaves, and its process is ended
-      ended_world : (w₂ : World) (y : Process) → process w₁.world r.process ≡ y → Ended w₁.world r.process w₂ → ended_as w₂.startable w₁.world r.process y ≡ w₂
-      ended_world w₂ gone e d = sym (d.stays e)
-      ended_world w₂ (live q) e d = λ j. record { procs = sym (d.closes q e) j; startable = w₂.startable }
-
       pub leaves_step : (how : How) → Verdict_of x ≡ verdict answer (leaves how) → {w₂ : Sight} → Ended w₁.world r.process w₂.world → Grows w₁.log (ending r.process how ∷ []) w₂.log
           → u.startable_last ≡ w₂.world.startable → IsStep capacity c room table w a answer (without table r.key) w₂ a₁
       leaves_step how v {w₂ = w₂} d grown last =
           is_step_by u is room_is _ (settled (leaves how) v) refl
           (ap (λ y. state (without table r.key) (ended u.startable_last y r.process)) (talk_world f t)
           ∙ ap (λ s. state (without table r.key) (ended s w₁.world r.process)) last
-          ∙ ap (state (without table r.key)) (ended_world w₂.world (process w₁.world r.process) refl d))
+          ∙ ap (state (without table r.key)) (ended_to w₁.world r.process w₂.world d))
           (t.laid ∙ ap (λ es. lay es a) (sym (append-nil t.events)))
           (ending r.process how ∷ t.acts) (t.acts, refl, (t.acts, ([], sym (append-nil t.acts), t.acted, refl))) (grows_then w.log w₁.log w₂.log t.acts (ending r.process how ∷ []) t.grows grown)

@@ -174,11 +174,11 @@ changed_gains g r k (Some s ∷ ps) e once = go (same_key s.key k) refl e (λ e'
         (subst (λ qs. Gains (None ∷ ps) (g r) (Some (g s) ∷ qs)) (sym (changed_none g k ps none)) (subst (λ x. Gains (None ∷ ps) (g r) (Some (g x) ∷ ps)) (sym same) (gains_first (g r) ps)))
     go false t e' ih = gains_more s (g r) (without ps k) (changed g ps k) (ih e' (let z = ap one_if t in omega arith))
 
-abbrev Placed : List Place → Record → Option (List Place) → Type 0
+abbrev pub Placed : List Place → Record → Option (List Place) → Type 0
 Placed ps r None = ⊥
 Placed ps r (Some qs) = Gains ps r qs
 
-placed : (r : Record) (ps : List Place) → has_free ps ≡ true → Placed ps r (put_first_free ps r)
+pub placed : (r : Record) (ps : List Place) → has_free ps ≡ true → Placed ps r (put_first_free ps r)
 placed r [] e = let z : ◌≡◌ {A = ℕ} 0 1 = cc in absurd (omega arith)
 placed r (None ∷ ps) e = gains_first r ps
 placed r (Some s ∷ ps) e = go (put_first_free ps r) (placed r ps e)

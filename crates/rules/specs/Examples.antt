@@ -13,10 +13,9 @@ use Rattle.records.specs.declared.context.Delay.TheVariants.{Allow, Forbid}
 use Rattle.records.specs.declared.key.Key.{Key}
 use Rattle.records.specs.declared.operation.Operation.TheVariants.{Clean, Smudge}
 use Rattle.rules.specs.Calls.{Asked, Call, apply, fetch, list, read, close_all, Turn}
-use Rattle.rules.specs.Answers.{Answer, passed, delayed, result, payload, finished, paths, done, failed, unfinished}
-use Rattle.rules.specs.Steps.{state, step}
+use Rattle.rules.specs.Answers.{passed, delayed, result, payload, finished, paths, done, failed, unfinished}
 use Rattle.rules.specs.Stories.{all_given, all_sent, lists, exchanges, results, open_count, aborted, stray_applies}
-use Rattle.rules.specs.Lives.{Life, life, turn, run, is_open}
+use Rattle.rules.specs.Lives.{Life, first_life, run, answers_of, is_open}
 
 unfoldable pub lfs : Key
 lfs = record { text = record { bytes = codes "git-lfs" ++ replicate 121 0; len = 7; room = refl; fits = omega arith }; lawful = refl }
@@ -38,12 +37,7 @@ unfoldable pub by : List Pkt → Call → Turn
 by ps c = record { call = c; has_room = true; newcomer = playing ps; startable_then = λ k. true; startable_last = λ k. true; later = λ n bytes waited. [] }
 
 unfoldable pub empty : Life
-empty = life (state (replicate 8 None) (record { procs = []; startable = λ k. true })) (λ p. []) (λ p. [])
-
--- what each call answers
-abbrev pub answers : List Turn → Life → List Answer
-answers [] l = []
-answers (t ∷ ts) l = (step 16 t l.now).answer ∷ answers ts (turn 16 t l)
+empty = first_life (record { procs = []; startable = λ k. true })
 
 unfoldable pub asks : Delay → List ℕ → Asked
 asks d content = record { rela_path = codes "a.txt"; ref_name = Some (codes "refs/heads/main"); treeish = None; blob = None; delay = d; content = content }
@@ -71,12 +65,12 @@ aborted_calls =
     ∷ by aborting (apply lfs Smudge (asks Forbid [])) ∷ by aborting close_all ∷ []
 
 pub record ExamplesStand : Type 0 where
-  pub delayed_answers : answers delayed_calls empty ≡ delayed ∷ paths (record { named = 1; stored = 1; full = false }) ∷ result 0 ∷ payload (codes "hello") ∷ finished ∷ []
+  pub delayed_answers : answers_of 16 delayed_calls empty ≡ delayed ∷ paths (record { named = 1; stored = 1; full = false }) ∷ result 0 ∷ payload (codes "hello") ∷ finished ∷ []
   -- L, S, R and O are 1, 1, 1 and 0: 8 flushes came, and 7 went
   pub counts : (lists ((run 16 delayed_calls empty).book 0) ≡ 1) × (exchanges ((run 16 delayed_calls empty).book 0) ≡ 1) × (results ((run 16 delayed_calls empty).book 0) ≡ 1) × (open_count ((run 16 delayed_calls empty).book 0) ≡ 0)
   pub came : flushes (all_given ((run 16 delayed_calls empty).book 0)) ≡ 8
   pub went : flushes (all_sent ((run 16 delayed_calls empty).book 0)) ≡ 7
-  pub aborted_answers : answers aborted_calls empty ≡ result 0 ∷ payload (codes "hello") ∷ unfinished (Named Abort 5) ∷ passed ∷ failed (Named Error 5) ∷ done ∷ []
+  pub aborted_answers : answers_of 16 aborted_calls empty ≡ result 0 ∷ payload (codes "hello") ∷ unfinished (Named Abort 5) ∷ passed ∷ failed (Named Error 5) ∷ done ∷ []
   pub aborted_clean : aborted Clean ((run 16 aborted_calls empty).book 0) ≡ true
   pub aborted_smudge : aborted Smudge ((run 16 aborted_calls empty).book 0) ≡ false
   pub none_astray : stray_applies ((run 16 aborted_calls empty).book 0) ≡ 0

@@ -1,12 +1,12 @@
 -- A table's life: the table over its host, and the stories of the host's processes, as somebody beside them writes them down.
-use Rattle.std.specs.Prelude.{◌≡◌, ℕ, Bool, true, false, cond, List, [], ◌∷◌, ◌++◌, ◌==◌}
+use Rattle.std.specs.Prelude.{◌≡◌, ℕ, Bool, true, false, cond, List, [], ◌∷◌, ◌++◌, None, replicate, ◌==◌}
 use Rattle.std.specs.List.{count_by}
-use Rattle.host.specs.Worlds.{Process, gone, live}
+use Rattle.host.specs.Worlds.{Process, gone, live, World}
 use Rattle.host.specs.Talk.{Event}
 use Rattle.records.specs.Records.{held}
 use Rattle.rules.specs.Calls.{Call, Turn}
 use Rattle.rules.specs.Answers.{Answer}
-use Rattle.rules.specs.Steps.{State, Deed, starts, talks, ends, step}
+use Rattle.rules.specs.Steps.{State, state, Deed, starts, talks, ends, step}
 use Rattle.rules.specs.Stories.{episode, Story}
 
 -- the stories of all processes, by their numbers
@@ -57,9 +57,23 @@ abbrev pub run : ℕ → List Turn → Life → Life
 run capacity [] l = l
 run capacity (t ∷ ts) l = run capacity ts (turn capacity t l)
 
+-- what each call answers
+abbrev pub answers_of : ℕ → List Turn → Life → List Answer
+answers_of capacity [] l = []
+answers_of capacity (t ∷ ts) l = (step capacity t l.now).answer ∷ answers_of capacity ts (turn capacity t l)
+
+-- what they all do with the host, the latest first
+abbrev pub deeds_of : ℕ → List Turn → Life → List Deed
+deeds_of capacity [] l = []
+deeds_of capacity (t ∷ ts) l = deeds_of capacity ts (turn capacity t l) ++ (step capacity t l.now).deeds
+
 abbrev pub is_open : Process → Bool
 is_open gone = false
 is_open (live q) = true
+
+-- a table of eight free places over a host, and nothing written down
+abbrev pub first_life : World → Life
+first_life w = life (state (replicate 8 None) w) (λ p. []) (λ p. [])
 
 -- an empty table over a host with no process open, and nothing written down yet
 pub record Begins (l : Life) : Type 0 where

@@ -20,7 +20,7 @@ delay_name = record { text = record { bytes = codes "delay" ++ replicate 59 0; l
 unfoldable pub desired_names : List Name
 desired_names = clean_name ∷ smudge_name ∷ delay_name ∷ []
 
--- whether a process named an operation that it was not without since
+-- whether a process can do an operation: it named it, and no abort took it away
 abbrev pub can_do : Operation → Capabilities → Bool
 can_do op c = holds c.mask (operation_place op)
 

@@ -1,5 +1,6 @@
 -- What a call on a table promises: it is one step of the table, over the host that it was made on.
-use Rattle.std.specs.Prelude.{◌≡◌, ℕ, Bool, List, [], ◌∷◌, ◌++◌, Some, None, Ok, Err}
+use Rattle.std.specs.Prelude.{◌≡◌, ℕ, Bool, List, [], ◌∷◌, ◌++◌, map, Some, None, Ok, Err}
+use Rattle.std.specs.List.{count_by}
 use Rattle.host.specs.declared.fault.NotStarted.{NotStarted}
 use Rattle.host.specs.Acts.{Act, starting, ending, Grows}
 use Rattle.host.specs.Talk.{Event, Areas, lay, Acted, Sight}
@@ -7,6 +8,8 @@ use Rattle.records.specs.Places.{Place}
 use Rattle.rules.specs.Calls.{Call, Turn}
 use Rattle.rules.specs.Answers.{Answer}
 use Rattle.rules.specs.Steps.{state, Deed, starts, talks, ends, step}
+use Rattle.rules.specs.Lives.{run, answers_of, deeds_of, is_open, first_life}
+use Rattle.rules.specs.Rules.{Rules, Honest}
 
 -- these acts of a host, the latest first, are those deeds
 abbrev pub Done : List Deed → List Act → Type 0
@@ -36,3 +39,17 @@ pub record IsStep (capacity : ℕ) (c : Call) (has_room : Bool) (table : List Pl
   pub acts : List Act
   pub done : Done (step capacity turn (state table w.world)).deeds acts
   pub grows : Grows w.log acts w'.log
+
+-- Calls were worked off on an empty table, one behind the other, and answered so: there are turns of exactly these calls with exactly these answers that
+-- lead to exactly this table and this host, and their deeds are what the host's log, if it keeps one, has grown by. Where no process was open at the
+-- beginning the rules stand there, and the books are honest.
+pub record IsLife (capacity : ℕ) (calls : List Call) (w : Sight) (rs : List Answer) (table' : List Place) (w' : Sight) : Type 0 where
+  pub turns : List Turn
+  pub are : map (λ t. t.call) turns ≡ calls
+  pub answers : answers_of capacity turns (first_life w.world) ≡ rs
+  pub reaches : (run capacity turns (first_life w.world)).now ≡ state table' w'.world
+  pub acts : List Act
+  pub done : Done (deeds_of capacity turns (first_life w.world)) acts
+  pub grows : Grows w.log acts w'.log
+  pub rules : count_by is_open w.world.procs ≡ 0 → Rules (run capacity turns (first_life w.world))
+  pub books : count_by is_open w.world.procs ≡ 0 → Honest (run capacity turns (first_life w.world))
