@@ -1,0 +1,5 @@
+pub mod Answers
+pub mod Asking
+pub mod Fates
+pub mod Talks
+pub mod Storing
