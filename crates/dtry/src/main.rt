@@ -1,0 +1,4 @@
+//! compile only
+#![tactic(auto)]
+use exchange::call::Call;
+fn main() {}
