@@ -38,7 +38,8 @@ impl Runners {
         self.all.push(Runner {
             process: 0,
             reading: false,
-        })
+        })?;
+        Ok(())
     }
 
     /// Whether a process runs.
