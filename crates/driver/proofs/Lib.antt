@@ -1,1 +1,5 @@
+mod Concluding
+mod Giving
+mod Refused
+mod Rooms
 mod Settling
