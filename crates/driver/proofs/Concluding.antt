@@ -46,14 +46,18 @@ module _ {A : Type 0} (f : Wire → Got A) (right : A → Wire → Verdict) (wro
   verdict_is (Ok y) = refl
   verdict_is (Err e) = refl
 
-  pub concluded : (answer : Answer) (fate : Fate) → ((v : Wire) → v ≡ wire (process w₁.world r.process) no_reply t.events → judged right wrong x v ≡ verdict answer fate)
+  with_fate : (answer : Answer) (fate : Fate) → ((v : Wire) → v ≡ wire (process w₁.world r.process) no_reply t.events → judged right wrong x v ≡ verdict answer fate)
       → (table' : List Place) (w' : Sight) → Settles r fate table w₁ table' w' → IsStep capacity c true table w a answer table' w' a₁
-  concluded answer (stays m o) v table' w' (put, same) =
+  with_fate answer (stays m o) v table' w' (put, same) =
       subst (λ y. IsStep capacity c true table w a answer table' y a₁) (sym same)
       (subst (λ y. IsStep capacity c true table w a answer y w₁ a₁) (sym (put_is table table' (seated r m o) known put))
       (stays_step f table r t no_reply right wrong (the_turn (λ k. true)) refl capacity c true refl refl (step_acts capacity (the_turn (λ k. true)) (state table w.world) refl within ∙ acts (the_turn (λ k. true))) answer m o
       (sym (verdict_is x) ∙ v (wire (process w₁.world r.process) no_reply t.events) refl)))
-  concluded answer (leaves how) v table' w' (free, d, grown) =
+  with_fate answer (leaves how) v table' w' (free, d, grown) =
       subst (λ y. IsStep capacity c true table w a answer y w' a₁) (sym free)
       (leaves_step f table r t no_reply right wrong (the_turn w'.world.startable) refl capacity c true refl refl (step_acts capacity (the_turn w'.world.startable) (state table w.world) refl within ∙ acts (the_turn w'.world.startable)) answer how
       (sym (verdict_is x) ∙ v (wire (process w₁.world r.process) no_reply t.events) refl) d grown refl)
+
+  pub concluded : (answer : Answer) (fate : Fate) → ((v : Wire) → v ≡ wire (process w₁.world r.process) no_reply t.events → judged right wrong x v ≡ verdict answer fate)
+      → (table' : List Place) (w' : Sight) → Settles r fate table w₁ table' w' → (room : Bool) → room ≡ true → IsStep capacity c room table w a answer table' w' a₁
+  concluded answer fate v table' w' met room there = subst (λ z. IsStep capacity c z table w a answer table' w' a₁) (sym there) (with_fate answer fate v table' w' met)

@@ -1,5 +1,6 @@
 mod Concluding
 mod Giving
+mod Reading
 mod Refused
 mod Rooms
 mod Settling
