@@ -1,5 +1,7 @@
 mod Concluding
+mod Fetching
 mod Giving
+mod Idle
 mod Reading
 mod Refused
 mod Rooms
