@@ -1,3 +1,4 @@
+mod Closings
 mod Concluding
 mod Fetching
 mod Giving
