@@ -3,8 +3,9 @@ use Rattle.std.proofs.Common.{◌≡◌, ℕ, ◌+◌, ◌≤◌, Bool, true, fa
 use Rattle.std.specs.Prelude.{is_some, nat_le, nat_lt, ◌==◌}
 use Rattle.std.specs.List.{list_any, count_by}
 use Rattle.std.proofs.lemmas.List.{append_assoc, append-nil}
-use Rattle.std.proofs.lemmas.Bool.{and_parts, eqb-true, le-leb}
+use Rattle.std.proofs.lemmas.Bool.{and_parts, eqb-true, le-leb, lt-leb}
 use Rattle.packetline.specs.Packets.{Pkt, line, decode, flushes_of}
+use Rattle.host.specs.declared.host.How.TheVariants.{Close}
 use Rattle.host.specs.declared.fault.Fault.{Fault}
 use Rattle.host.specs.declared.fault.Fault.TheVariants.{Closed, Broken, Other as other_fault}
 use Rattle.host.specs.declared.fault.LineFault.{LineFault}
@@ -29,19 +30,19 @@ use Rattle.records.specs.Records.{held, lookup, is_reading, reading_by, without}
 use Rattle.rules.specs.Names.{desired_names, can_do, can_delay}
 use Rattle.rules.specs.Calls.{Asked, Call, apply, fetch, list, read, give_up, close_all, may_delay, is_within, needs_areas, Turn}
 use Rattle.rules.specs.Answers.{Answer, passed, done, fault, refused}
-use Rattle.rules.specs.Steps.{asked_lines, request_for, exchange, Fate, stays, leaves, Verdict, verdict, after_fault, after_exchange, delayed_if, never_delayed, after_listing, counted, after_final, after_piece, result_lost, State, state, Deed, starts, talks, ends, Outcome, outcome, refuse, ended, Seat, its_seat, new_seat, settle_by, settle, conclude, line_to, apply_at, newcomer_record, started, after_handshake, greeting, first_of_all, has_free, begin, unless_reading, apply_to, fetch_at, list_at, fetch_from, list_from, read_at, read_from, give_up_at, closed, closings, close, act, step}
+use Rattle.rules.specs.Steps.{asked_lines, request_for, exchange, Fate, stays, leaves, Verdict, verdict, after_fault, after_exchange, delayed_if, never_delayed, after_listing, counted, after_final, after_piece, result_lost, State, state, Deed, starts, talks, ends, Outcome, outcome, refuse, ended, Seat, its_seat, new_seat, seated, settle_by, settle, conclude, line_to, apply_at, newcomer_record, started, after_handshake, greeting, first_of_all, has_free, begin, unless_reading, apply_to, fetch_at, list_at, fetch_from, list_from, read_at, read_from, give_up_at, closed, closings, close, act, step}
 use Rattle.rules.specs.Stories.{Telling, told, marked, cut, telling, behind_flushes, one_if}
 use Rattle.rules.specs.Lives.{Book, Ledger, Life, turn, run, Begins}
 use Rattle.rules.specs.Key.{Seen, ended_by, seen_in, seen_of, seen_calls, Afterwards, dies, lives, reads, after_telling, begins_with_payload, after_call, after_meeting, afterwards, Runner, runner, is_running, is_read_from, some_read_from, others, settled, untalked, key_by, key_step, key, Keyed, KeyStands}
 use Rattle.rules.proofs.Totals.{total, In, found_in, found_none, total_in, none_held}
 use Rattle.rules.proofs.Seats.{Inv}
 use Rattle.rules.proofs.Kept.{Always, weaken}
-use Rattle.rules.proofs.Steps.{Holds, step_stands, begins_holds}
+use Rattle.rules.proofs.Steps.{tales, Holds, step_stands, begins_holds, stands}
 use Rattle.rules.proofs.Talks.{Sofar, nothing, Cut, Greeted, MaybeGreeted, greeting_told}
 use Rattle.rules.proofs.Standing.{Good}
 use Rattle.rules.proofs.Keeping.{good_keeps}
 use Rattle.rules.proofs.Tellings.{Given, given_by, left_by, Tells, TellsFirst, TellsNone, exchange_tells, Lists, ListsFirst, ListsNone, listing_tells, is_piece, PieceTells, NoPieceTells, piece_tells}
-use Rattle.rules.proofs.Runners.{runner_of, Matches, any_same, runs_open, once_each, few_runners, Fits, fits_known, fits_new}
+use Rattle.rules.proofs.Runners.{runner_of, Matches, any_same, runs_open, once_each, few_runners, none_found, some_found, emptied, Fits, fits_known, fits_new}
 
 -- One talk: what the key makes of it is the record's fate.
 
@@ -169,9 +170,9 @@ module _ (t : Turn) (w : World) (seat : Seat) (c : Call) (rs : List Runner) (kno
           subst (λ y. Matches (settled seat.of.process y rs) ps) (sym (ap (λ b. afterwards b c (decode (bytes_given v.events)).packets (ended_by a)) fits.whether ∙ q)) m
 
       go : (g : Fate) → Judges known c v.events a g → Follows c rs (settle_by t w seat v a g)
-      go (stays m None) q = placed (stays m None) q _ (fits.back m None)
-      go (stays m (Some op)) q = placed (stays m (Some op)) q _ (fits.back m (Some op))
-      go (leaves how) q = placed (leaves how) q _ fits.out
+      go (stays m None) q = placed (stays m None) q (seat.holding (seated seat.of m None)) (fits.back m None)
+      go (stays m (Some op)) q = placed (stays m (Some op)) q (seat.holding (seated seat.of m (Some op))) (fits.back m (Some op))
+      go (leaves how) q = placed (leaves how) q seat.free fits.out
 
   conclude_follows : {A : Type 0} (g : Got A) (right : A → Wire → Verdict) (wrong : LineFault → Fate) → TalkJudged known c g right wrong → Follows c rs (conclude t w seat g right wrong)
   conclude_follows (got x v) right wrong h = settle_follows v (right x v).answer (right x v).fate h
@@ -202,18 +203,168 @@ apply_follows t w seat v k op a rs known gs ss fits idle s o = go (can_do op sea
         (ap (λ x. fate_as (stays seat.of.capabilities.mask x)) (sym idle)))
 
 -- a process that a call meets
-two : (n : ℕ) → 2 ≤ n → nat_le 2 n ≡ true
-two n h = le-leb 2 n h
-
 met_opens : (k : Key) (op : Operation) (a : Asked) (x : Shaken) (es : List Event) (g : Greeted x es) → Opens false (apply k op a) g.heard
 met_opens k op a x es g hs f =
     let n = flushes_append g.heard hs in
     let c = g.ends.count in
-    ap (λ b. cond b (after_call (apply k op a) (behind_flushes 2 (g.heard ++ hs)) f) dies) (two (flushes_of (g.heard ++ hs)) (omega arith))
+    ap (λ b. cond b (after_call (apply k op a) (behind_flushes 2 (g.heard ++ hs)) f) dies) (le-leb 2 (flushes_of (g.heard ++ hs)) (omega arith))
     ∙ ap (λ ps. after_telling (telling Previous ps) f (apply k op a)) (g.ends.over hs)
 
 unmet : (c : Call) (es : List Event) (f : Option Fault) → Cut 1 es → afterwards false c (decode (bytes_given es)).packets f ≡ dies
-unmet c es f h = ap (λ b. cond b (after_call c (behind_flushes 2 (decode (bytes_given es)).packets) f) dies) (few (flushes_of (decode (bytes_given es)).packets) h)
-  where
-    few : (n : ℕ) → n ≤ 1 → nat_le 2 n ≡ false
-    few n l = lt_leb_false n l
+unmet c es f h =
+    ap (λ b. cond b (after_call c (behind_flushes 2 (decode (bytes_given es)).packets) f) dies) (lt-leb 2 (flushes_of (decode (bytes_given es)).packets) (omega (arith, h)))
+
+-- what holds of the table, with the stories
+abbrev Table : State → Book → Ledger → Type 0
+Table s b l = Holds Good s b l
+
+module _ (s : State) (b : Book) (l : Ledger) (v : Table s b l) (rs : List Runner) (m : Matches rs s.table) where
+  seat_new : (t : Turn) (k : Key) (n x : ℕ) → has_free s.table ≡ true → Fits rs false (new_seat s.table t.newcomer (newcomer_record k (length s.world.procs) n x))
+  seat_new t k n x free = fits_new s (tales b l) v rs m t.newcomer (newcomer_record k (length s.world.procs) n x) free refl
+
+  meeting_follows : (t : Turn) (k : Key) (op : Operation) (a : Asked) → has_free s.table ≡ true → (g : Got (Result Shaken ℕ)) → Always (λ r u. MaybeGreeted r u.events) (λ f u. Cut 1 u.events) g
+      → Follows (apply k op a) rs (after_handshake t s k op a g)
+  meeting_follows t k op a free (got (Ok x) u) h =
+      apply_follows t (started t s.world) (new_seat s.table t.newcomer (newcomer_record k (length s.world.procs) x.version x.mask)) u k op a rs false h.heard
+      (hello (codes "git-filter") (2 ∷ []) ++ desired desired_names) (seat_new t k x.version x.mask free) refl h.sofar (met_opens k op a x u.events h)
+  meeting_follows t k op a free (got (Err n) u) h =
+      settle_follows t (started t s.world) (new_seat s.table t.newcomer (newcomer_record k (length s.world.procs) 0 0)) (apply k op a) rs false (seat_new t k 0 0 free) u (refused n) (leaves Close)
+      (unmet (apply k op a) u.events None h)
+  meeting_follows t k op a free (lost f u) h =
+      settle_follows t (started t s.world) (new_seat s.table t.newcomer (newcomer_record k (length s.world.procs) 0 0)) (apply k op a) rs false (seat_new t k 0 0 free) u (fault f) (leaves Close)
+      (unmet (apply k op a) u.events (ended_by (fault f)) h)
+
+  begin_follows : (capacity : ℕ) (t : Turn) (k : Key) (op : Operation) (a : Asked) → Follows (apply k op a) rs (begin capacity t s k op a)
+  begin_follows capacity t k op a = go (has_free s.table) (can_start capacity s.world (key_bytes k)) refl
+    where
+      go : (y z : Bool) → has_free s.table ≡ y → Follows (apply k op a) rs (cond y
+          (cond z
+          (first_of_all (starts (key_bytes k) (Some (length s.world.procs))) (after_handshake t s k op a (greeting (wire (live t.newcomer) t.later []))))
+          (outcome (refused 10) s (starts (key_bytes k) None ∷ [])))
+          (refuse 6 s))
+      go false z e = m
+      go true false e = m
+      go true true e =
+          first_follows (apply k op a) rs (key_bytes k) (Some (length s.world.procs)) (after_handshake t s k op a (greeting (wire (live t.newcomer) t.later [])))
+          (meeting_follows t k op a e (greeting (wire (live t.newcomer) t.later [])) (greeting_told (wire (live t.newcomer) t.later []) refl))
+
+  -- a known record that is not reading
+  unless_follows : (c : Call) (r : Record) (o : Outcome) → Follows c rs (refuse 4 s) → (r.reading ≡ None → Follows c rs o) → Follows c rs (unless_reading s r o)
+  unless_follows c r o refuses on = go r.reading refl
+    where
+      go : (x : Option Operation) → r.reading ≡ x → Follows c rs (cond (is_some x) (refuse 4 s) o)
+      go None e = on e
+      go (Some op) e = refuses
+
+  apply_to_follows : (capacity : ℕ) (t : Turn) (k : Key) (op : Operation) (a : Asked) (o : Option Record) → lookup s.table k ≡ o → Follows (apply k op a) rs (apply_to capacity t s k op a o)
+  apply_to_follows capacity t k op a None e = begin_follows capacity t k op a
+  apply_to_follows capacity t k op a (Some r) e =
+      unless_follows (apply k op a) r (apply_at t s.world (its_seat s r) (line_to t s.world r) op a) m
+      (λ idle.
+      apply_follows t s.world (its_seat s r) (line_to t s.world r) k op a rs true [] [] (fits_known s (tales b l) v rs m r (found_in (λ x. same_key x.key k) s.table r e).0) idle nothing (λ hs f. refl))
+
+  fetch_follows : (t : Turn) (k : Key) (op : Operation) (path : List ℕ) (o : Option Record) → lookup s.table k ≡ o → Follows (fetch k op path) rs (fetch_from t s op path o)
+  fetch_follows t k op path None e = m
+  fetch_follows t k op path (Some r) e =
+      unless_follows (fetch k op path) r (fetch_at t s op path r) m
+      (λ idle.
+      conclude_follows t s.world (its_seat s r) (fetch k op path) rs true (fits_known s (tales b l) v rs m r (found_in (λ x. same_key x.key k) s.table r e).0) _ _ _
+      (exchange_judged true (fetch k op path) [] [] (request_for op path []) [] (line_to t s.world r) (after_exchange r.process op r.capabilities.mask never_delayed) r.capabilities.mask nothing (λ hs f. refl)
+      (fetch_rightly k op path r.process r.capabilities.mask)))
+
+  list_follows : (t : Turn) (k : Key) (rows room : ℕ) (o : Option Record) → lookup s.table k ≡ o → Follows (list k rows room) rs (list_from t s rows room o)
+  list_follows t k rows room None e = m
+  list_follows t k rows room (Some r) e =
+      unless_follows (list k rows room) r (list_at t s rows room r) m
+      (λ idle.
+      conclude_follows t s.world (its_seat s r) (list k rows room) rs true (fits_known s (tales b l) v rs m r (found_in (λ x. same_key x.key k) s.table r e).0) _ _ _
+      (listing_judged k rows room r.capabilities.mask (line_to t s.world r) nothing))
+
+  read_follows : (t : Turn) (p : ℕ) (o : Option Record) → reading_by s.table p ≡ o → Follows (read p) rs (read_from t s o)
+  read_follows t p None e = m
+  read_follows t p (Some r) e = go r.reading
+    where
+      go : (x : Option Operation) → Follows (read p) rs (read_at t s r x)
+      go None = m
+      go (Some op) =
+          conclude_follows t s.world (its_seat s r) (read p) rs true (fits_known s (tales b l) v rs m r (found_in (λ x. x.process == p && is_reading x) s.table r e).0) _ _ _
+          (read_judged p op r.capabilities.mask (line_to t s.world r) nothing)
+
+  -- what is given up
+  read_known : (p : ℕ) → is_read_from p rs ≡ list_any (λ r. r.process == p && is_reading r) (held s.table)
+  read_known p = any_same rs s.table m (λ x. x.process == p && x.reading)
+
+  give_up_follows : (t : Turn) (p : ℕ) (o : Option Record) → reading_by s.table p ≡ o → Follows (give_up p) rs (give_up_at t s o)
+  give_up_follows t p None e =
+      subst (λ z. Matches (cond z (others p rs) rs) s.table) (sym (read_known p ∙ none_found (λ r. r.process == p && is_reading r) s.table e)) m
+  give_up_follows t p (Some r) e =
+      let i = found_in (λ x. x.process == p && is_reading x) s.table r e in
+      let same : r.process ≡ p = eqb-true r.process p (and_parts (r.process == p) (is_reading r) i.1).0 in
+      subst (λ z. Matches (cond z (others p rs) rs) (without s.table r.key)) (sym (read_known p ∙ some_found (λ x. x.process == p && is_reading x) s.table r e))
+      (subst (λ n. Matches (others n rs) (without s.table r.key)) same (fits_known s (tales b l) v rs m r i.0).out)
+
+  close_follows : (t : Turn) → Follows close_all rs (close t s)
+  close_follows t = go (list_any is_reading (held s.table)) refl
+    where
+      go : (z : Bool) → list_any is_reading (held s.table) ≡ z → Follows close_all rs (cond z (refuse 4 s)
+          (outcome done (state (map (λ _. None) s.table) (closed t.startable_last (held s.table) s.world)) (closings (held s.table))))
+      go true e = subst (λ y. Matches (cond y rs []) s.table) (sym (any_same rs s.table m (λ x. x.reading) ∙ e)) m
+      go false e =
+          subst (λ x. Matches (key_step close_all x rs) (map (λ _. None) s.table)) (sym (ap (seen_in None) (sym (append-nil (closings (held s.table)))) ∙ seen_closings None (held s.table) []))
+          (subst (λ y. Matches (cond y rs []) (map (λ _. None) s.table)) (sym (any_same rs s.table m (λ x. x.reading) ∙ e)) (emptied s.table))
+
+  act_follows : (capacity : ℕ) (t : Turn) (c : Call) → Follows c rs (act capacity t s c)
+  act_follows capacity t (apply k op a) = apply_to_follows capacity t k op a (lookup s.table k) refl
+  act_follows capacity t (fetch k op path) = fetch_follows t k op path (lookup s.table k) refl
+  act_follows capacity t (list k rows room) = list_follows t k rows room (lookup s.table k) refl
+  act_follows capacity t (read p) = read_follows t p (reading_by s.table p) refl
+  act_follows capacity t (give_up p) = give_up_follows t p (reading_by s.table p) refl
+  act_follows capacity t close_all = close_follows t
+
+  -- a call that is refused for its areas or its arguments
+  refused_follows : (c : Call) (n : ℕ) → needs_areas c ≡ true → Follows c rs (refuse n s)
+  refused_follows (apply k op a) n e = m
+  refused_follows (fetch k op path) n e = m
+  refused_follows (list k rows room) n e = m
+  refused_follows (read p) n e = m
+  refused_follows (give_up p) n e = let z : ◌≡◌ {A = ℕ} 0 1 = cc in absurd (omega arith)
+  refused_follows close_all n e = let z : ◌≡◌ {A = ℕ} 0 1 = cc in absurd (omega arith)
+
+  outside_needs : (c : Call) → is_within c ≡ false → needs_areas c ≡ true
+  outside_needs (apply k op a) e = refl
+  outside_needs (fetch k op path) e = refl
+  outside_needs (list k rows room) e = refl
+  outside_needs (read p) e = refl
+  outside_needs (give_up p) e = let z : ◌≡◌ {A = ℕ} 0 1 = cc in absurd (omega arith)
+  outside_needs close_all e = let z : ◌≡◌ {A = ℕ} 0 1 = cc in absurd (omega arith)
+
+  step_follows : (capacity : ℕ) (t : Turn) → Follows t.call rs (step capacity t s)
+  step_follows capacity t = areas_first (needs_areas t.call && not t.has_room) refl
+    where
+      within : (z : Bool) → is_within t.call ≡ z → Follows t.call rs (cond z (act capacity t s t.call) (refuse 2 s))
+      within true e = act_follows capacity t t.call
+      within false e = refused_follows t.call 2 (outside_needs t.call e)
+
+      areas_first : (z : Bool) → (needs_areas t.call && not t.has_room) ≡ z → Follows t.call rs (cond z (refuse 1 s) (cond (is_within t.call) (act capacity t s t.call) (refuse 2 s)))
+      areas_first true e = refused_follows t.call 1 (and_parts (needs_areas t.call) (not t.has_room) e).0
+      areas_first false e = within (is_within t.call) refl
+
+-- A list of calls
+
+run_follows : (capacity : ℕ) (ts : List Turn) (l : Life) (rs : List Runner) → Table l.now l.book l.ledger → Matches rs l.now.table → Matches (key (seen_calls capacity ts l) rs) (run capacity ts l).now.table
+run_follows capacity [] l rs v m = m
+run_follows capacity (t ∷ ts) l rs v m =
+    run_follows capacity ts (turn capacity t l) (key_step t.call (seen_of (step capacity t l.now)) rs) (step_stands Good good_keeps capacity t l.now l.book l.ledger v)
+    (step_follows l.now l.book l.ledger v rs m capacity t)
+
+keyed_by : (l : Life) (rs : List Runner) → Table l.now l.book l.ledger → Matches rs l.now.table → Keyed l rs
+keyed_by l rs v m = record {
+  runs = λ p. sym (runs_open l.now.table l.now.world.procs (tales l.book l.ledger) v rs m p);
+  once = once_each l.now.table l.now.world.procs (tales l.book l.ledger) v rs m;
+  few = few_runners rs l.now.table m;
+}
+
+pub key_stands : KeyStands
+key_stands capacity l b turns =
+    keyed_by (run capacity turns l) (key (seen_calls capacity turns l) []) (stands Good good_keeps capacity l b turns)
+    (run_follows capacity turns l [] (begins_holds Good l b) (λ f. sym (none_held (λ r. f (runner_of r)) l.now.table b.empty)))

@@ -1,6 +1,6 @@
 -- The key's runners are a table's records: counted in any way they are as many.
-use Rattle.std.proofs.Common.{◌≡◌, ℕ, zero, suc, ◌+◌, ◌≤◌, Bool, true, false, cond, not, ◌||◌, List, [], ◌∷◌, ◌++◌, length, Some, None, Option, sym, refl, ap, ◌∙◌, subst, arith}
-use Rattle.std.specs.Prelude.{is_some, nat_lt, ◌==◌}
+use Rattle.std.proofs.Common.{◌≡◌, ℕ, zero, suc, ◌+◌, ◌≤◌, Bool, true, false, cond, not, ◌||◌, List, [], ◌∷◌, ◌++◌, map, length, Some, None, Option, sym, refl, ap, ◌∙◌, subst, arith}
+use Rattle.std.specs.Prelude.{is_some, nat_lt, find, ◌==◌}
 use Rattle.std.specs.List.{list_any, count_by}
 use Rattle.std.proofs.lemmas.List.{get_or_past}
 use Rattle.std.proofs.lemmas.List.Sums.{sum_by-cons}
@@ -15,7 +15,7 @@ use Rattle.rules.specs.Steps.{State, Seat, its_seat, new_seat, seated, has_free}
 use Rattle.rules.specs.Stories.{one_if}
 use Rattle.rules.specs.Lives.{is_open}
 use Rattle.rules.specs.Key.{Runner, runner, is_running, others}
-use Rattle.rules.proofs.Totals.{total, In, Loses, Gains, of_process, total_in, its_lookup, without_loses, changed_gains, put_gains}
+use Rattle.rules.proofs.Totals.{total, In, Loses, Gains, of_process, total_in, found_in, found_none, its_lookup, without_loses, changed_gains, put_gains}
 use Rattle.rules.proofs.Seats.{at, Inv}
 
 abbrev pub runner_of : Record → Runner
@@ -51,6 +51,17 @@ any_held test (Some r ∷ ps) = go (test r) (any_held test ps)
 -- runners and records pass a test alike
 pub any_same : (rs : List Runner) (ps : List Place) → Matches rs ps → (test : Runner → Bool) → list_any test rs ≡ list_any (λ r. test (runner_of r)) (held ps)
 any_same rs ps m test = any_tally test rs ∙ ap (nat_lt 0) (m (λ x. one_if (test x))) ∙ sym (any_held (λ r. test (runner_of r)) ps)
+
+-- a search tests whether one passes
+pub none_found : (test : Record → Bool) (ps : List Place) → find test (held ps) ≡ None → list_any test (held ps) ≡ false
+none_found test ps e = any_held test ps ∙ ap (nat_lt 0) (found_none test ps e)
+
+pub some_found : (test : Record → Bool) (ps : List Place) (r : Record) → find test (held ps) ≡ Some r → list_any test (held ps) ≡ true
+some_found test ps r e =
+    let i = found_in test ps r e in
+    let x = total_in (λ y. one_if (test y)) r ps i.0 in
+    let y = ap one_if i.1 in
+    any_held test ps ∙ lt-ltb 0 (total (λ z. one_if (test z)) ps) (omega arith)
 
 one_or_none : (b : Bool) → nat_lt 0 (one_if b) ≡ b
 one_or_none true = refl
@@ -100,6 +111,11 @@ matches_less rs ps qs r m l z f =
 
 matches_more : (rs : List Runner) (ps qs : List Place) (r : Record) → Matches rs ps → Gains ps r qs → Matches (rs ++ runner_of r ∷ []) qs
 matches_more rs ps qs r m g f = tally_push f rs (runner_of r) ∙ ap (λ n. n + f (runner_of r)) (m f) ∙ sym (g.more (λ s. f (runner_of s)))
+
+-- no record is left
+pub emptied : (ps : List Place) → Matches [] (map (λ _. None) ps)
+emptied [] f = refl
+emptied (p ∷ ps) f = emptied ps f
 
 -- Seats
 
