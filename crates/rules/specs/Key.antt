@@ -140,6 +140,10 @@ pub record Keyed (l : Life) (rs : List Runner) : Type 0 where
   pub once : (p : ℕ) → count_by (λ r. r.process == p) rs ≤ 1
   pub few : length rs ≤ length l.now.table
 
+-- so the key to what is seen of these turns, from this life on, tells what runs at their end
+abbrev pub KeyFits : ℕ → List Turn → Life → Type 0
+KeyFits capacity turns l = Keyed (run capacity turns l) (key (seen_calls capacity turns l) [])
+
 -- after every list of calls, whatever the host leaves free
 abbrev pub KeyStands : Type 0
-KeyStands = (capacity : ℕ) (l : Life) → Begins l → (turns : List Turn) → Keyed (run capacity turns l) (key (seen_calls capacity turns l) [])
+KeyStands = (capacity : ℕ) (l : Life) → Begins l → (turns : List Turn) → KeyFits capacity turns l
