@@ -1,16 +1,16 @@
 -- The key tells which processes run.
-use Rattle.std.proofs.Common.{◌≡◌, ℕ, ◌+◌, ◌≤◌, Bool, true, false, cond, not, ◌&&◌, List, [], ◌∷◌, ◌++◌, map, length, Some, None, Ok, Err, codes, Option, Result, sym, refl, ap, ◌∙◌, subst, arith}
-use Rattle.std.specs.Prelude.{is_some, nat_le, nat_lt, ◌==◌}
-use Rattle.std.specs.List.{list_any, count_by}
+use Rattle.std.proofs.Common.{◌≡◌, ℕ, Bool, true, false, cond, not, ◌&&◌, List, [], ◌∷◌, ◌++◌, map, length, Some, None, Ok, Err, codes, Option, Result, sym, refl, ap, ◌∙◌, subst, arith}
+use Rattle.std.specs.Prelude.{is_some, ◌==◌}
+use Rattle.std.specs.List.{list_any}
 use Rattle.std.proofs.lemmas.List.{append_assoc, append-nil}
 use Rattle.std.proofs.lemmas.Bool.{and_parts, eqb-true, le-leb, lt-leb}
-use Rattle.packetline.specs.Packets.{Pkt, line, decode, flushes_of}
+use Rattle.packetline.specs.Packets.{Pkt, decode, flushes_of}
 use Rattle.host.specs.declared.host.How.TheVariants.{Close}
 use Rattle.host.specs.declared.fault.Fault.{Fault}
 use Rattle.host.specs.declared.fault.Fault.TheVariants.{Closed, Broken, Other as other_fault}
 use Rattle.host.specs.declared.fault.LineFault.{LineFault}
 use Rattle.host.specs.declared.fault.LineFault.TheVariants.{Host, Packet, Marker, Text}
-use Rattle.host.specs.Worlds.{Pipe, live, World, process}
+use Rattle.host.specs.Worlds.{live, World}
 use Rattle.host.specs.Acts.{can_start}
 use Rattle.host.specs.Talk.{Event, bytes_given, Wire, wire, Got, got, lost}
 use Rattle.process.specs.declared.status.Word.TheVariants.{Success, Delayed, Abort, Error, Other}
@@ -30,18 +30,17 @@ use Rattle.records.specs.Records.{held, lookup, is_reading, reading_by, without}
 use Rattle.rules.specs.Names.{desired_names, can_do, can_delay}
 use Rattle.rules.specs.Calls.{Asked, Call, apply, fetch, list, read, give_up, close_all, may_delay, is_within, needs_areas, Turn}
 use Rattle.rules.specs.Answers.{Answer, passed, done, fault, refused}
-use Rattle.rules.specs.Steps.{asked_lines, request_for, exchange, Fate, stays, leaves, Verdict, verdict, after_fault, after_exchange, delayed_if, never_delayed, after_listing, counted, after_final, after_piece, result_lost, State, state, Deed, starts, talks, ends, Outcome, outcome, refuse, ended, Seat, its_seat, new_seat, seated, settle_by, settle, conclude, line_to, apply_at, newcomer_record, started, after_handshake, greeting, first_of_all, has_free, begin, unless_reading, apply_to, fetch_at, list_at, fetch_from, list_from, read_at, read_from, give_up_at, closed, closings, close, act, step}
-use Rattle.rules.specs.Stories.{Telling, told, marked, cut, telling, behind_flushes, one_if}
-use Rattle.rules.specs.Lives.{Book, Ledger, Life, turn, run, Begins}
-use Rattle.rules.specs.Key.{Seen, ended_by, seen_in, seen_of, seen_calls, Afterwards, dies, lives, reads, after_telling, begins_with_payload, after_call, after_meeting, afterwards, Runner, runner, is_running, is_read_from, some_read_from, others, settled, untalked, key_by, key_step, key, Keyed, KeyStands}
-use Rattle.rules.proofs.Totals.{total, In, found_in, found_none, total_in, none_held}
-use Rattle.rules.proofs.Seats.{Inv}
+use Rattle.rules.specs.Steps.{asked_lines, request_for, exchange, Fate, stays, leaves, Verdict, verdict, after_fault, after_exchange, delayed_if, never_delayed, after_listing, counted, after_piece, result_lost, State, state, Deed, starts, talks, ends, Outcome, outcome, refuse, Seat, its_seat, new_seat, seated, settle_by, settle, conclude, line_to, apply_at, newcomer_record, started, after_handshake, greeting, first_of_all, has_free, begin, unless_reading, apply_to, fetch_at, list_at, fetch_from, list_from, read_at, read_from, give_up_at, closed, closings, close, act, step}
+use Rattle.rules.specs.Stories.{Telling, told, cut, telling, behind_flushes}
+use Rattle.rules.specs.Lives.{Book, Ledger, Life, turn, run}
+use Rattle.rules.specs.Key.{ended_by, seen_in, seen_of, seen_calls, Afterwards, dies, lives, reads, after_telling, after_call, afterwards, Runner, is_running, is_read_from, others, settled, key_step, key, Keyed, KeyStands}
+use Rattle.rules.proofs.Totals.{found_in, none_held}
 use Rattle.rules.proofs.Kept.{Always, weaken}
 use Rattle.rules.proofs.Steps.{tales, Holds, step_stands, begins_holds, stands}
 use Rattle.rules.proofs.Talks.{Sofar, nothing, Cut, Greeted, MaybeGreeted, greeting_told}
 use Rattle.rules.proofs.Standing.{Good}
 use Rattle.rules.proofs.Keeping.{good_keeps}
-use Rattle.rules.proofs.Tellings.{Given, given_by, left_by, Tells, TellsFirst, TellsNone, exchange_tells, Lists, ListsFirst, ListsNone, listing_tells, is_piece, PieceTells, NoPieceTells, piece_tells}
+use Rattle.rules.proofs.Tellings.{given_by, left_by, Tells, TellsFirst, TellsNone, exchange_tells, ListsFirst, ListsNone, listing_tells, is_piece, PieceTells, NoPieceTells, piece_tells}
 use Rattle.rules.proofs.Runners.{runner_of, Matches, any_same, runs_open, once_each, few_runners, none_found, some_found, emptied, Fits, fits_known, fits_new}
 
 -- One talk: what the key makes of it is the record's fate.
@@ -182,12 +181,6 @@ apply_follows : (t : Turn) (w : World) (seat : Seat) (v : Wire) (k : Key) (op : 
     → Sofar gs ss v.events → Opens known (apply k op a) gs → Follows (apply k op a) rs (apply_at t w seat v op a)
 apply_follows t w seat v k op a rs known gs ss fits idle s o = go (can_do op seat.of.capabilities)
   where
-    m₀ : ℕ
-    m₀ = seat.of.capabilities.mask
-
-    delays : Bool
-    delays = may_delay a.delay && can_delay seat.of.capabilities
-
     go : (z : Bool) → Follows (apply k op a) rs (cond z
         (conclude t w seat (exchange (request_for op a.rela_path (asked_lines a (may_delay a.delay && can_delay seat.of.capabilities))) a.content v)
         (λ x _. after_exchange seat.of.process op seat.of.capabilities.mask (delayed_if (may_delay a.delay && can_delay seat.of.capabilities) seat.of.capabilities.mask) x) (after_fault seat.of.capabilities.mask))

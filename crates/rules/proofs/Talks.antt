@@ -179,13 +179,14 @@ piece_told v e =
 
 -- The handshake
 
--- A process that has just been met: where the handshake did not go well, it gave less than two flushes.
+-- a process that has just been met
 pub record Greeted (x : Shaken) (es : List Event) : Type 0 where
   pub heard : List Pkt
   pub sofar : Sofar heard (hello (codes "git-filter") (2 ∷ []) ++ desired desired_names) es
   pub ends : Ends 2 heard
   pub naming : (op : Operation) → holds x.mask (operation_place op) ≡ true → (rest : List Pkt) → names_before op 2 (heard ++ rest) ≡ true
 
+-- where the handshake went wrong, less than two flushes were given
 abbrev pub MaybeGreeted : Result Shaken ℕ → List Event → Type 0
 MaybeGreeted (Ok x) es = Greeted x es
 MaybeGreeted (Err n) es = Cut 1 es

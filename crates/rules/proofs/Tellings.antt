@@ -1,18 +1,18 @@
 -- What a call's talk tells of its process: the packets that were given tell its status, or in which way it failed to come.
-use Rattle.std.proofs.Common.{◌≡◌, ℕ, zero, suc, ◌+◌, Bool, true, false, cond, List, [], ◌∷◌, ◌++◌, map, length, Some, None, Ok, Err, codes, Option, Result, sym, refl, ap, ◌∙◌, subst, arith}
+use Rattle.std.proofs.Common.{◌≡◌, ℕ, zero, suc, Bool, true, false, cond, List, [], ◌∷◌, ◌++◌, length, Some, None, Ok, Err, Option, Result, sym, refl, ap, ◌∙◌, subst}
 use Rattle.std.proofs.lemmas.List.{append_assoc, append-nil}
 use Rattle.packetline.specs.Packets.{Pkt, flush, delimiter, response_end, line, packet, Front, whole, bad, short, front, Decoded, decode}
 use Rattle.packetline.specs.Lines.{kind_of}
-use Rattle.packetline.specs.Text.{utf8, trim_end, text_of}
+use Rattle.packetline.specs.Text.{utf8, trim_end}
 use Rattle.host.specs.declared.fault.Fault.{Fault}
 use Rattle.host.specs.declared.fault.LineFault.{LineFault}
 use Rattle.host.specs.declared.fault.LineFault.TheVariants.{Host, Packet, Marker, Text}
 use Rattle.host.specs.Worlds.{waiting_of, stop_of}
 use Rattle.host.specs.Acts.{refusal_of}
-use Rattle.host.specs.Talk.{Event, bytes_given, Wire, wire, Got, got, lost, then, sent_by, send, send_all, hear, read, wanted, read_content, texted, text_in, read_text}
+use Rattle.host.specs.Talk.{Event, bytes_given, Wire, wire, Got, then, sent_by, send, send_all, hear, read, wanted, read_content, texted, text_in, read_text}
 use Rattle.process.specs.declared.status.Status.{Status}
 use Rattle.process.specs.declared.status.Status.TheVariants.{Previous}
-use Rattle.process.specs.Gather.{goes, stops, turned, gather_in, gather}
+use Rattle.process.specs.Gather.{turned, gather_in, gather}
 use Rattle.process.specs.Statuses.{status_in, told_by, first, noted_by, status_step, read_status}
 use Rattle.process.proofs.Passes.{AllSent, NoneGiven, OneRead, NoneRead, send_all_passes, whole_passes}
 use Rattle.client.specs.Requests.{content_packets, as_first, status_then, content_then}
@@ -22,7 +22,7 @@ use Rattle.rules.specs.Steps.{exchange}
 use Rattle.rules.specs.Stories.{Telling, told, marked, cut, telling, behind_flushes}
 use Rattle.rules.specs.Key.{begins_with_payload}
 use Rattle.rules.proofs.Kept.{Always, then_always, weaken, join}
-use Rattle.rules.proofs.Talks.{Sofar, nothing, Heard, Cutoff, passed_always}
+use Rattle.rules.proofs.Talks.{Sofar, Heard, Cutoff, passed_always}
 
 -- the packets that were given
 abbrev pub Given : List Event → List Pkt → Type 0
@@ -60,42 +60,47 @@ hear_cuts (whole p b rest) v = tt
 hear_cuts (bad b rest) v = refl
 hear_cuts short v = refl
 
-module _ (gs ss : List Pkt) where
-  abbrev Next : Pkt → Wire → Type 0
-  Next p u = Sofar (gs ++ p ∷ []) ss u.events
-
+module _ (gs : List Pkt) where
   abbrev Cuts : LineFault → Wire → Type 0
   Cuts f u = Given u.events gs × (left_by f ≡ cut)
 
-  read_hears : (v : Wire) → Sofar gs ss v.events → Always Next Cuts (read v)
-  read_hears v s =
-      weaken (λ p u. Heard OneRead gs ss p u × Whole p u) Next (λ f u. Cutoff NoneRead gs f u × (left_by f ≡ cut)) Cuts (read v)
-      (join (Heard OneRead gs ss) Whole (Cutoff NoneRead gs) (λ f u. left_by f ≡ cut) (read v) (passed_always v gs ss s OneRead NoneRead (read v) (whole_passes v).by) (hear_cuts (front (waiting_of v.end)) v))
-      (λ p u ((hs, (ts, c, k)), x). subst (λ xs. Sofar (gs ++ p ∷ []) xs u.events) (ap (λ xs. ss ++ xs) k.1 ∙ append-nil ss) (subst (λ xs. Sofar (gs ++ xs) (ss ++ ts) u.events) k.0 c))
-      (λ f u ((hs, (ts, c, k)), x). (c ∙ ap (λ xs. gs ++ xs) k.0 ∙ append-nil gs, x))
+  abbrev TextBreaks : LineFault → Wire → Type 0
+  TextBreaks f u = Breaks gs f u.events
+
+  -- a fault where content is wanted leaves no payload
+  abbrev ContentBreaks : LineFault → Wire → Type 0
+  ContentBreaks f u = (b : Breaks gs f u.events) × (begins_with_payload b.after ≡ false)
 
   breaks_cut : (f : LineFault) (u : Wire) → Cuts f u → Breaks gs f u.events
   breaks_cut f u c = record { after = []; given = c.0 ∙ sym (append-nil gs); leaves = λ s. sym c.1 }
 
-  -- content; a fault leaves no payload
+module _ (gs ss : List Pkt) where
+  abbrev Next : Pkt → Wire → Type 0
+  Next p u = Sofar (gs ++ p ∷ []) ss u.events
+
+  read_hears : (v : Wire) → Sofar gs ss v.events → Always Next (Cuts gs) (read v)
+  read_hears v s =
+      weaken (λ p u. Heard OneRead gs ss p u × Whole p u) Next (λ f u. Cutoff NoneRead gs f u × (left_by f ≡ cut)) (Cuts gs) (read v)
+      (join (Heard OneRead gs ss) Whole (Cutoff NoneRead gs) (λ f u. left_by f ≡ cut) (read v) (passed_always v gs ss s OneRead NoneRead (read v) (whole_passes v).by) (hear_cuts (front (waiting_of v.end)) v))
+      (λ p u ((hs, (ts, c, k)), x). subst (λ xs. Sofar (gs ++ p ∷ []) xs u.events) (ap (λ xs. ss ++ xs) k.1 ∙ append-nil ss) (subst (λ xs. Sofar (gs ++ xs) (ss ++ ts) u.events) k.0 c))
+      (λ f u ((hs, (ts, c, k)), x). (c ∙ ap (λ xs. gs ++ xs) k.0 ∙ append-nil gs, x))
+
+  -- content
   abbrev NextContent : Option (List ℕ) → Wire → Type 0
   NextContent None u = Sofar (gs ++ flush ∷ []) ss u.events
   NextContent (Some l) u = Sofar (gs ++ line l ∷ []) ss u.events
 
-  abbrev ContentBreaks : LineFault → Wire → Type 0
-  ContentBreaks f u = (b : Breaks gs f u.events) × (begins_with_payload b.after ≡ false)
-
-  wanted_hears : (p : Pkt) (v : Wire) → Next p v → Always NextContent ContentBreaks (wanted p v)
+  wanted_hears : (p : Pkt) (v : Wire) → Next p v → Always NextContent (ContentBreaks gs) (wanted p v)
   wanted_hears flush v s = s
   wanted_hears delimiter v s = (record { after = delimiter ∷ []; given = given_by (gs ++ delimiter ∷ []) ss v.events s; leaves = λ t. refl }, refl)
   wanted_hears response_end v s = (record { after = response_end ∷ []; given = given_by (gs ++ response_end ∷ []) ss v.events s; leaves = λ t. refl }, refl)
   wanted_hears (line l) v s = s
 
-  pub content_hears : (v : Wire) → Sofar gs ss v.events → Always NextContent ContentBreaks (read_content v)
+  pub content_hears : (v : Wire) → Sofar gs ss v.events → Always NextContent (ContentBreaks gs) (read_content v)
   unfolding breaks_cut
   content_hears v s =
-      then_always Next ContentBreaks NextContent (read v) wanted
-      (weaken Next Next Cuts ContentBreaks (read v) (read_hears v s) (λ p u x. x) (λ f u c. (breaks_cut f u c, refl)))
+      then_always Next (ContentBreaks gs) NextContent (read v) wanted
+      (weaken Next Next (Cuts gs) (ContentBreaks gs) (read v) (read_hears v s) (λ p u x. x) (λ f u c. (breaks_cut gs f u c, refl)))
       wanted_hears
 
   -- text: a line with what it says, or a flush
@@ -106,21 +111,18 @@ module _ (gs ss : List Pkt) where
   abbrev NextText : Option (List ℕ) → Wire → Type 0
   NextText o u = (p : Pkt) × Sofar (gs ++ p ∷ []) ss u.events × Says p o
 
-  abbrev TextBreaks : LineFault → Wire → Type 0
-  TextBreaks f u = Breaks gs f u.events
-
-  texted_hears : (l : List ℕ) (v : Wire) → Sofar (gs ++ line l ∷ []) ss v.events → (b : Bool) (n : ℕ) → Always NextText TextBreaks (texted (cond b (Ok (trim_end l)) (Err n)) v)
+  texted_hears : (l : List ℕ) (v : Wire) → Sofar (gs ++ line l ∷ []) ss v.events → (b : Bool) (n : ℕ) → Always NextText (TextBreaks gs) (texted (cond b (Ok (trim_end l)) (Err n)) v)
   texted_hears l v s true n = (line l, s, λ t rest. refl)
   texted_hears l v s false n = record { after = line l ∷ []; given = given_by (gs ++ line l ∷ []) ss v.events s; leaves = λ t. refl }
 
-  text_in_hears : (o : Option (List ℕ)) (v : Wire) → NextContent o v → Always NextText TextBreaks (text_in o v)
+  text_in_hears : (o : Option (List ℕ)) (v : Wire) → NextContent o v → Always NextText (TextBreaks gs) (text_in o v)
   text_in_hears None v s = (flush, s, λ t rest. refl)
   text_in_hears (Some l) v s = texted_hears l v s (utf8 l) 22
 
-  text_hears : (v : Wire) → Sofar gs ss v.events → Always NextText TextBreaks (read_text v)
+  text_hears : (v : Wire) → Sofar gs ss v.events → Always NextText (TextBreaks gs) (read_text v)
   text_hears v s =
-      then_always NextContent TextBreaks NextText (read_content v) text_in
-      (weaken NextContent NextContent ContentBreaks TextBreaks (read_content v) (content_hears v s) (λ o u x. x) (λ f u b. b.0))
+      then_always NextContent (TextBreaks gs) NextText (read_content v) text_in
+      (weaken NextContent NextContent (ContentBreaks gs) (TextBreaks gs) (read_content v) (content_hears v s) (λ o u x. x) (λ f u b. b.0))
       text_in_hears
 
 -- A status
@@ -164,7 +166,7 @@ module _ (gs ss : List Pkt) where
   status_in_tells zero s v hs c e = record { after = hs; given = given_by (gs ++ hs) ss v.events c; tells = ap (telling Previous) (sym (append-nil hs)) ∙ e [] }
   status_in_tells (suc k) s v hs c e =
       then_always (NextText (gs ++ hs) ss) (TellsNone gs) (TellsStatus gs) (read_text v) (λ o u. turned (gather_in read_text status_step k) (status_step s o) u)
-      (weaken (NextText (gs ++ hs) ss) (NextText (gs ++ hs) ss) (TextBreaks (gs ++ hs) ss) (TellsNone gs) (read_text v) (text_hears (gs ++ hs) ss v c) (λ o u x. x)
+      (weaken (NextText (gs ++ hs) ss) (NextText (gs ++ hs) ss) (TextBreaks (gs ++ hs)) (TellsNone gs) (read_text v) (text_hears (gs ++ hs) ss v c) (λ o u x. x)
       (λ f u b. record { after = hs ++ b.after; given = b.given ∙ append_assoc gs hs b.after; tells = e b.after ∙ b.leaves s }))
       (status_goes k (status_in_tells k) s hs e)
 
@@ -191,21 +193,21 @@ module _ (gs : List Pkt) where
   abbrev Said : {A : Type 0} → A → Wire → Type 0
   Said a u = (ts : List Pkt) × Sofar gs ts u.events
 
-  pub send_tells : (ps ss : List Pkt) (v : Wire) → Sofar gs ss v.events → Always Said (Cuts gs ss) (send_all ps v)
+  pub send_tells : (ps ss : List Pkt) (v : Wire) → Sofar gs ss v.events → Always Said (Cuts gs) (send_all ps v)
   send_tells ps ss v s =
-      weaken (λ a u. Heard (AllSent ps) gs ss a u × Whole a u) Said (λ f u. Cutoff NoneGiven gs f u × (left_by f ≡ cut)) (Cuts gs ss) (send_all ps v)
+      weaken (λ a u. Heard (AllSent ps) gs ss a u × Whole a u) Said (λ f u. Cutoff NoneGiven gs f u × (left_by f ≡ cut)) (Cuts gs) (send_all ps v)
       (join (Heard (AllSent ps) gs ss) Whole (Cutoff NoneGiven gs) (λ f u. left_by f ≡ cut) (send_all ps v) (passed_always v gs ss s (AllSent ps) NoneGiven (send_all ps v) (send_all_passes ps v).by) (send_cuts ps v))
       (λ a u ((hs, (ts, c, k)), x). (ss ++ ts, subst (λ xs. Sofar xs (ss ++ ts) u.events) (ap (λ xs. gs ++ xs) k.0 ∙ append-nil gs) c))
       (λ f u ((hs, (ts, c, k)), x). (c ∙ ap (λ xs. gs ++ xs) k ∙ append-nil gs, x))
 
-  tells_cut : (f : LineFault) (u : Wire) (ss : List Pkt) → Cuts gs ss f u → Tells gs (left_by f) u.events
-  tells_cut f u ss c = record { after = []; given = c.0 ∙ sym (append-nil gs); tells = sym c.1 }
+  tells_cut : (f : LineFault) (u : Wire) → Cuts gs f u → Tells gs (left_by f) u.events
+  tells_cut f u c = record { after = []; given = c.0 ∙ sym (append-nil gs); tells = sym c.1 }
 
   sends_then : {B : Type 0} (R : B → Wire → Type 0) (ps ss : List Pkt) (v : Wire) (k : Unit {0} → Wire → Got B) → Sofar gs ss v.events
       → ((ts : List Pkt) (u : Wire) → Sofar gs ts u.events → Always R (TellsNone gs) (k tt u)) → Always R (TellsNone gs) (then (send_all ps v) k)
   sends_then R ps ss v k s on =
       then_always Said (TellsNone gs) R (send_all ps v) k
-      (weaken Said Said (Cuts gs ss) (TellsNone gs) (send_all ps v) (send_tells ps ss v s) (λ a u x. x) (λ f u c. tells_cut f u ss c))
+      (weaken Said Said (Cuts gs) (TellsNone gs) (send_all ps v) (send_tells ps ss v s) (λ a u x. x) tells_cut)
       (λ a u x. on x.0 u x.1)
 
 -- The talks
@@ -235,8 +237,8 @@ Over gs = (rest : List Pkt) → behind_flushes 1 (gs ++ rest) ≡ rest
 lists_by : (gs : List Pkt) (t : Telling) (es : List Event) → Over gs → Tells gs t es → Lists t es
 lists_by gs t es o x = ap (λ ps. telling Previous (behind_flushes 1 ps)) x.given ∙ ap (telling Previous) (o x.after) ∙ x.tells
 
-lists_cut : (gs ss : List Pkt) (f : LineFault) (u : Wire) → Before gs → Cuts gs ss f u → ListsNone f u
-lists_cut gs ss f u b c =
+lists_cut : (gs : List Pkt) (f : LineFault) (u : Wire) → Before gs → Cuts gs f u → ListsNone f u
+lists_cut gs f u b c =
     ap (λ ps. telling Previous (behind_flushes 1 ps)) (c.0 ∙ sym (append-nil gs)) ∙ ap (telling Previous) (b []) ∙ sym c.1
 
 module _ (ss : List Pkt) where
@@ -253,10 +255,10 @@ module _ (ss : List Pkt) where
   lines_go k on hs b (line l) u c = on u (hs ++ line l ∷ []) c (λ rest. ap (behind_flushes 1) (append_assoc hs (line l ∷ []) rest) ∙ b (line l ∷ rest))
 
   lines_in : (k : ℕ) → LinesGo k
-  lines_in zero v hs c b = lists_cut hs ss (Host (stop_of v.end)) v b (given_by hs ss v.events c, refl)
+  lines_in zero v hs c b = lists_cut hs (Host (stop_of v.end)) v b (given_by hs ss v.events c, refl)
   lines_in (suc k) v hs c b =
       then_always (Next hs ss) ListsNone Listed (read v) (λ p u. turned (gather_in read lines_step k) (lines_step tt p) u)
-      (weaken (Next hs ss) (Next hs ss) (Cuts hs ss) ListsNone (read v) (read_hears hs ss v c) (λ p u x. x) (λ f u x. lists_cut hs ss f u b x))
+      (weaken (Next hs ss) (Next hs ss) (Cuts hs) ListsNone (read v) (read_hears hs ss v c) (λ p u x. x) (λ f u x. lists_cut hs f u b x))
       (lines_go k (lines_in k) hs b)
 
   lines_list : (v : Wire) → Sofar [] ss v.events → Always Listed ListsNone (read_lines v)
@@ -273,7 +275,7 @@ module _ (ss : List Pkt) where
 pub listing_tells : (v : Wire) → Sofar [] [] v.events → Always ListsFirst ListsNone (listing v)
 listing_tells v s =
     then_always (Said []) ListsNone ListsFirst (send_all list_request v) lines_then
-    (weaken (Said []) (Said []) (Cuts [] []) ListsNone (send_all list_request v) (send_tells [] list_request [] v s) (λ a u x. x) (λ f u x. lists_cut [] [] f u (λ rest. refl) x))
+    (weaken (Said []) (Said []) (Cuts []) ListsNone (send_all list_request v) (send_tells [] list_request [] v s) (λ a u x. x) (λ f u x. lists_cut [] f u (λ rest. refl) x))
     (λ a u x. after_lines x.0 u x.1)
 
 -- one read of a result
@@ -301,6 +303,6 @@ final_tells (Some l) v s = ap begins_with_payload (given_by (line l ∷ []) [] v
 pub piece_tells : (v : Wire) → Sofar [] [] v.events → Always PieceTells NoPieceTells (read_piece v)
 piece_tells v s =
     then_always (NextContent [] []) NoPieceTells PieceTells (read_content v) final_then
-    (weaken (NextContent [] []) (NextContent [] []) (ContentBreaks [] []) NoPieceTells (read_content v) (content_hears [] [] v s) (λ o u x. x)
+    (weaken (NextContent [] []) (NextContent [] []) (ContentBreaks []) NoPieceTells (read_content v) (content_hears [] [] v s) (λ o u x. x)
     (λ f u b. ap begins_with_payload b.0.given ∙ b.1))
     final_tells

@@ -1,8 +1,9 @@
 -- The key: which processes run after a list of a table's calls, told from what is seen of each call alone: with which process it talked, the bytes that
 -- it was given, and how the input ended. No answer is looked at, and neither is the table.
 use Rattle.std.specs.Prelude.{◌≡◌, ℕ, ◌≤◌, Bool, true, false, cond, not, ◌&&◌, List, [], ◌∷◌, ◌++◌, length, Some, None, Option, filter, nat_le, ◌==◌}
+use Rattle.std.specs.Option.{option_map_or}
 use Rattle.std.specs.List.{list_any, count_by}
-use Rattle.packetline.specs.Packets.{Pkt, flush, delimiter, response_end, line, decode, flushes_of}
+use Rattle.packetline.specs.Packets.{Pkt, line, decode, flushes_of}
 use Rattle.host.specs.declared.fault.Fault.{Fault}
 use Rattle.host.specs.declared.fault.Fault.TheVariants.{Closed, Broken, Other as other_fault}
 use Rattle.host.specs.declared.fault.LineFault.TheVariants.{Host}
@@ -49,9 +50,9 @@ seen_calls capacity (t ∷ ts) l = (t.call, seen_of (step capacity t l.now)) ∷
 pub data Afterwards : Type 0 where
   dies lives reads : Afterwards
 
--- By what was told, by how the input ended, and by the call. To an apply, a fetch or a list a process may tell `success`, `abort` or `error`, and to an
--- apply `delayed` as well; any other status ends it, and so does none at all. Before a status it may be cut off by 13, by a header that is none or by a
--- line that is no text; a marker ends it, and so do 11 and 12.
+-- An apply, a fetch or a list, by what was told, how the input ended, and the call. `success`, `abort` and `error` keep a process, and in an apply so does
+-- `delayed`; any other status ends it, and so does none at all. Where no status came, a marker ends it, and so do 11 and 12; 13 keeps it, and so do a header
+-- that is none, a line that is no text, and an apply of what it cannot do, in which nothing is said.
 abbrev pub after_telling : Telling → Option Fault → Call → Afterwards
 after_telling (told (Named Success n)) f (list k rows room) = lives
 after_telling (told (Named Success n)) f c = reads
@@ -120,12 +121,8 @@ untalked (give_up p) rs = cond (is_read_from p rs) (others p rs) rs
 untalked close_all rs = cond (some_read_from rs) rs []
 untalked _ rs = rs
 
-abbrev pub key_by : Call → Seen → Option ℕ → List Runner → List Runner
-key_by c s None rs = untalked c rs
-key_by c s (Some p) rs = settled p (afterwards (is_running p rs) c (decode s.given).packets s.ended) rs
-
 abbrev pub key_step : Call → Seen → List Runner → List Runner
-key_step c s rs = key_by c s s.talked_with rs
+key_step c s rs = option_map_or (λ p. settled p (afterwards (is_running p rs) c (decode s.given).packets s.ended) rs) s.talked_with (untalked c rs)
 
 -- the key to calls, in order; it begins with no runner
 abbrev pub key : List (Call × Seen) → List Runner → List Runner
