@@ -141,11 +141,6 @@ read_judged p op m v s =
     (λ x u t. ap (λ b. cond b reads lives) t ∙ piece_rightly op m x)
     (λ f u t. ap (λ b. cond b reads lives) t)
 
--- One call: the runners go on matching the records.
-
-abbrev Follows : Call → List Runner → Outcome → Type 0
-Follows c rs o = Matches (key_step c (seen_of o) rs) o.after.table
-
 seen_starts : (f : Option Fault) (command : List ℕ) (n : Option ℕ) (ds : List Deed) → seen_in f (ds ++ starts command n ∷ []) ≡ seen_in f ds
 seen_starts f command n [] = refl
 seen_starts f command n (starts k x ∷ ds) = seen_starts f command n ds
@@ -155,45 +150,6 @@ seen_starts f command n (ends p how ∷ ds) = seen_starts f command n ds
 seen_closings : (f : Option Fault) (rs : List Record) (ds : List Deed) → seen_in f (closings rs ++ ds) ≡ seen_in f ds
 seen_closings f [] ds = refl
 seen_closings f (r ∷ rs) ds = ap (seen_in f) (append_assoc (closings rs) _ ds) ∙ seen_closings f rs _
-
-first_follows : (c : Call) (rs : List Runner) (command : List ℕ) (n : Option ℕ) (o : Outcome) → Follows c rs o → Follows c rs (first_of_all (starts command n) o)
-first_follows c rs command n o m = subst (λ x. Matches (key_step c x rs) o.after.table) (sym (seen_starts (ended_by o.answer) command n o.deeds)) m
-
-module _ (t : Turn) (w : World) (seat : Seat) (c : Call) (rs : List Runner) (known : Bool) (fits : Fits rs known seat) where
-  settle_follows : (v : Wire) (a : Answer) (f : Fate) → Judges known c v.events a f → Follows c rs (settle_by t w seat v a f)
-  settle_follows v a f e = go f e
-    where
-      placed : (g : Fate) → Judges known c v.events a g → (ps : List Place) → Matches (settled seat.of.process (fate_as g) rs) ps
-          → Matches (settled seat.of.process (afterwards (is_running seat.of.process rs) c (decode (bytes_given v.events)).packets (ended_by a)) rs) ps
-      placed g q ps m =
-          subst (λ y. Matches (settled seat.of.process y rs) ps) (sym (ap (λ b. afterwards b c (decode (bytes_given v.events)).packets (ended_by a)) fits.whether ∙ q)) m
-
-      go : (g : Fate) → Judges known c v.events a g → Follows c rs (settle_by t w seat v a g)
-      go (stays m None) q = placed (stays m None) q (seat.holding (seated seat.of m None)) (fits.back m None)
-      go (stays m (Some op)) q = placed (stays m (Some op)) q (seat.holding (seated seat.of m (Some op))) (fits.back m (Some op))
-      go (leaves how) q = placed (leaves how) q seat.free fits.out
-
-  conclude_follows : {A : Type 0} (g : Got A) (right : A → Wire → Verdict) (wrong : LineFault → Fate) → TalkJudged known c g right wrong → Follows c rs (conclude t w seat g right wrong)
-  conclude_follows (got x v) right wrong h = settle_follows v (right x v).answer (right x v).fate h
-  conclude_follows (lost f v) right wrong h = settle_follows v (fault f) (wrong f) h
-
-apply_follows : (t : Turn) (w : World) (seat : Seat) (v : Wire) (k : Key) (op : Operation) (a : Asked) (rs : List Runner) (known : Bool) (gs ss : List Pkt) → Fits rs known seat → seat.of.reading ≡ None
-    → Sofar gs ss v.events → Opens known (apply k op a) gs → Follows (apply k op a) rs (apply_at t w seat v op a)
-apply_follows t w seat v k op a rs known gs ss fits idle s o = go (can_do op seat.of.capabilities)
-  where
-    go : (z : Bool) → Follows (apply k op a) rs (cond z
-        (conclude t w seat (exchange (request_for op a.rela_path (asked_lines a (may_delay a.delay && can_delay seat.of.capabilities))) a.content v)
-        (λ x _. after_exchange seat.of.process op seat.of.capabilities.mask (delayed_if (may_delay a.delay && can_delay seat.of.capabilities) seat.of.capabilities.mask) x) (after_fault seat.of.capabilities.mask))
-        (settle t w seat v (verdict passed (stays seat.of.capabilities.mask seat.of.reading))))
-    go true =
-        conclude_follows t w seat (apply k op a) rs known fits _ _ _
-        (exchange_judged known (apply k op a) gs ss (request_for op a.rela_path (asked_lines a (may_delay a.delay && can_delay seat.of.capabilities))) a.content v _ seat.of.capabilities.mask s o
-        (apply_rightly k op a seat.of.process seat.of.capabilities.mask (may_delay a.delay && can_delay seat.of.capabilities)))
-    go false =
-        settle_follows t w seat (apply k op a) rs known fits v passed (stays seat.of.capabilities.mask seat.of.reading)
-        (judged_by known (apply k op a) gs cut v.events passed (stays seat.of.capabilities.mask seat.of.reading) o
-        (record { after = []; given = given_by gs ss v.events s ∙ sym (append-nil gs); tells = refl })
-        (ap (λ x. fate_as (stays seat.of.capabilities.mask x)) (sym idle)))
 
 -- a process that a call meets
 met_opens : (k : Key) (op : Operation) (a : Asked) (x : Shaken) (es : List Event) (g : Greeted x es) → Opens false (apply k op a) g.heard
@@ -207,157 +163,202 @@ unmet : (c : Call) (es : List Event) (f : Option Fault) → Cut 1 es → afterwa
 unmet c es f h =
     ap (λ b. cond b (after_call c (behind_flushes 2 (decode (bytes_given es)).packets) f) dies) (lt-leb 2 (flushes_of (decode (bytes_given es)).packets) (omega (arith, h)))
 
--- what holds of the table, with the stories
+outside_needs : (c : Call) → is_within c ≡ false → needs_areas c ≡ true
+outside_needs (apply k op a) e = refl
+outside_needs (fetch k op path) e = refl
+outside_needs (list k rows room) e = refl
+outside_needs (read p) e = refl
+outside_needs (give_up p) e = let z : ◌≡◌ {A = ℕ} 0 1 = cc in absurd (omega arith)
+outside_needs close_all e = let z : ◌≡◌ {A = ℕ} 0 1 = cc in absurd (omega arith)
+
+-- what holds of a table, with the stories
 abbrev Table : State → Book → Ledger → Type 0
 Table s b l = Holds Good s b l
 
-module _ (s : State) (b : Book) (l : Ledger) (v : Table s b l) (rs : List Runner) (m : Matches rs s.table) where
-  seat_new : (t : Turn) (k : Key) (n x : ℕ) → has_free s.table ≡ true → Fits rs false (new_seat s.table t.newcomer (newcomer_record k (length s.world.procs) n x))
-  seat_new t k n x free = fits_new s (tales b l) v rs m t.newcomer (newcomer_record k (length s.world.procs) n x) free refl
+-- One call: the runners go on matching the records.
 
-  meeting_follows : (t : Turn) (k : Key) (op : Operation) (a : Asked) → has_free s.table ≡ true → (g : Got (Result Shaken ℕ)) → Always (λ r u. MaybeGreeted r u.events) (λ f u. Cut 1 u.events) g
-      → Follows (apply k op a) rs (after_handshake t s k op a g)
-  meeting_follows t k op a free (got (Ok x) u) h =
-      apply_follows t (started t s.world) (new_seat s.table t.newcomer (newcomer_record k (length s.world.procs) x.version x.mask)) u k op a rs false h.heard
-      (hello (codes "git-filter") (2 ∷ []) ++ desired desired_names) (seat_new t k x.version x.mask free) refl h.sofar (met_opens k op a x u.events h)
-  meeting_follows t k op a free (got (Err n) u) h =
-      settle_follows t (started t s.world) (new_seat s.table t.newcomer (newcomer_record k (length s.world.procs) 0 0)) (apply k op a) rs false (seat_new t k 0 0 free) u (refused n) (leaves Close)
-      (unmet (apply k op a) u.events None h)
-  meeting_follows t k op a free (lost f u) h =
-      settle_follows t (started t s.world) (new_seat s.table t.newcomer (newcomer_record k (length s.world.procs) 0 0)) (apply k op a) rs false (seat_new t k 0 0 free) u (fault f) (leaves Close)
-      (unmet (apply k op a) u.events (ended_by (fault f)) h)
+module _ (places : ℕ) where
+  abbrev Follows : Call → List Runner → Outcome → Type 0
+  Follows c rs o = Matches places (key_step c (seen_of o) rs) o.after.table
 
-  begin_follows : (capacity : ℕ) (t : Turn) (k : Key) (op : Operation) (a : Asked) → Follows (apply k op a) rs (begin capacity t s k op a)
-  begin_follows capacity t k op a = go (has_free s.table) (can_start capacity s.world (key_bytes k)) refl
+  first_follows : (c : Call) (rs : List Runner) (command : List ℕ) (n : Option ℕ) (o : Outcome) → Follows c rs o → Follows c rs (first_of_all (starts command n) o)
+  first_follows c rs command n o m = subst (λ x. Matches places (key_step c x rs) o.after.table) (sym (seen_starts (ended_by o.answer) command n o.deeds)) m
+
+  module _ (t : Turn) (w : World) (seat : Seat) (c : Call) (rs : List Runner) (known : Bool) (fits : Fits places rs known seat) where
+    settle_follows : (v : Wire) (a : Answer) (f : Fate) → Judges known c v.events a f → Follows c rs (settle_by t w seat v a f)
+    settle_follows v a f e = go f e
+      where
+        placed : (g : Fate) → Judges known c v.events a g → (ps : List Place) → Matches places (settled seat.of.process (fate_as g) rs) ps
+            → Matches places (settled seat.of.process (afterwards (is_running seat.of.process rs) c (decode (bytes_given v.events)).packets (ended_by a)) rs) ps
+        placed g q ps m =
+            subst (λ y. Matches places (settled seat.of.process y rs) ps) (sym (ap (λ b. afterwards b c (decode (bytes_given v.events)).packets (ended_by a)) fits.whether ∙ q)) m
+
+        go : (g : Fate) → Judges known c v.events a g → Follows c rs (settle_by t w seat v a g)
+        go (stays m None) q = placed (stays m None) q (seat.holding (seated seat.of m None)) (fits.back m None)
+        go (stays m (Some op)) q = placed (stays m (Some op)) q (seat.holding (seated seat.of m (Some op))) (fits.back m (Some op))
+        go (leaves how) q = placed (leaves how) q seat.free fits.out
+
+    conclude_follows : {A : Type 0} (g : Got A) (right : A → Wire → Verdict) (wrong : LineFault → Fate) → TalkJudged known c g right wrong → Follows c rs (conclude t w seat g right wrong)
+    conclude_follows (got x v) right wrong h = settle_follows v (right x v).answer (right x v).fate h
+    conclude_follows (lost f v) right wrong h = settle_follows v (fault f) (wrong f) h
+
+  apply_follows : (t : Turn) (w : World) (seat : Seat) (v : Wire) (k : Key) (op : Operation) (a : Asked) (rs : List Runner) (known : Bool) (gs ss : List Pkt) → Fits places rs known seat → seat.of.reading ≡ None
+      → Sofar gs ss v.events → Opens known (apply k op a) gs → Follows (apply k op a) rs (apply_at t w seat v op a)
+  apply_follows t w seat v k op a rs known gs ss fits idle s o = go (can_do op seat.of.capabilities)
     where
-      go : (y z : Bool) → has_free s.table ≡ y → Follows (apply k op a) rs (cond y
-          (cond z
-          (first_of_all (starts (key_bytes k) (Some (length s.world.procs))) (after_handshake t s k op a (greeting (wire (live t.newcomer) t.later []))))
-          (outcome (refused 10) s (starts (key_bytes k) None ∷ [])))
-          (refuse 6 s))
-      go false z e = m
-      go true false e = m
-      go true true e =
-          first_follows (apply k op a) rs (key_bytes k) (Some (length s.world.procs)) (after_handshake t s k op a (greeting (wire (live t.newcomer) t.later [])))
-          (meeting_follows t k op a e (greeting (wire (live t.newcomer) t.later [])) (greeting_told (wire (live t.newcomer) t.later []) refl))
+      go : (z : Bool) → Follows (apply k op a) rs (cond z
+          (conclude t w seat (exchange (request_for op a.rela_path (asked_lines a (may_delay a.delay && can_delay seat.of.capabilities))) a.content v)
+          (λ x _. after_exchange seat.of.process op seat.of.capabilities.mask (delayed_if (may_delay a.delay && can_delay seat.of.capabilities) seat.of.capabilities.mask) x) (after_fault seat.of.capabilities.mask))
+          (settle t w seat v (verdict passed (stays seat.of.capabilities.mask seat.of.reading))))
+      go true =
+          conclude_follows t w seat (apply k op a) rs known fits _ _ _
+          (exchange_judged known (apply k op a) gs ss (request_for op a.rela_path (asked_lines a (may_delay a.delay && can_delay seat.of.capabilities))) a.content v _ seat.of.capabilities.mask s o
+          (apply_rightly k op a seat.of.process seat.of.capabilities.mask (may_delay a.delay && can_delay seat.of.capabilities)))
+      go false =
+          settle_follows t w seat (apply k op a) rs known fits v passed (stays seat.of.capabilities.mask seat.of.reading)
+          (judged_by known (apply k op a) gs cut v.events passed (stays seat.of.capabilities.mask seat.of.reading) o
+          (record { after = []; given = given_by gs ss v.events s ∙ sym (append-nil gs); tells = refl })
+          (ap (λ x. fate_as (stays seat.of.capabilities.mask x)) (sym idle)))
 
-  -- a known record that is not reading
-  unless_follows : (c : Call) (r : Record) (o : Outcome) → Follows c rs (refuse 4 s) → (r.reading ≡ None → Follows c rs o) → Follows c rs (unless_reading s r o)
-  unless_follows c r o refuses on = go r.reading refl
-    where
-      go : (x : Option Operation) → r.reading ≡ x → Follows c rs (cond (is_some x) (refuse 4 s) o)
-      go None e = on e
-      go (Some op) e = refuses
+  module _ (s : State) (b : Book) (l : Ledger) (v : Table s b l) (rs : List Runner) (m : Matches places rs s.table) where
+    seat_new : (t : Turn) (k : Key) (n x : ℕ) → has_free s.table ≡ true → Fits places rs false (new_seat s.table t.newcomer (newcomer_record k (length s.world.procs) n x))
+    seat_new t k n x free = fits_new s (tales b l) v places rs m t.newcomer (newcomer_record k (length s.world.procs) n x) free refl
 
-  apply_to_follows : (capacity : ℕ) (t : Turn) (k : Key) (op : Operation) (a : Asked) (o : Option Record) → lookup s.table k ≡ o → Follows (apply k op a) rs (apply_to capacity t s k op a o)
-  apply_to_follows capacity t k op a None e = begin_follows capacity t k op a
-  apply_to_follows capacity t k op a (Some r) e =
-      unless_follows (apply k op a) r (apply_at t s.world (its_seat s r) (line_to t s.world r) op a) m
-      (λ idle.
-      apply_follows t s.world (its_seat s r) (line_to t s.world r) k op a rs true [] [] (fits_known s (tales b l) v rs m r (found_in (λ x. same_key x.key k) s.table r e).0) idle nothing (λ hs f. refl))
+    meeting_follows : (t : Turn) (k : Key) (op : Operation) (a : Asked) → has_free s.table ≡ true → (g : Got (Result Shaken ℕ)) → Always (λ r u. MaybeGreeted r u.events) (λ f u. Cut 1 u.events) g
+        → Follows (apply k op a) rs (after_handshake t s k op a g)
+    meeting_follows t k op a free (got (Ok x) u) h =
+        apply_follows t (started t s.world) (new_seat s.table t.newcomer (newcomer_record k (length s.world.procs) x.version x.mask)) u k op a rs false h.heard
+        (hello (codes "git-filter") (2 ∷ []) ++ desired desired_names) (seat_new t k x.version x.mask free) refl h.sofar (met_opens k op a x u.events h)
+    meeting_follows t k op a free (got (Err n) u) h =
+        settle_follows t (started t s.world) (new_seat s.table t.newcomer (newcomer_record k (length s.world.procs) 0 0)) (apply k op a) rs false (seat_new t k 0 0 free) u (refused n) (leaves Close)
+        (unmet (apply k op a) u.events None h)
+    meeting_follows t k op a free (lost f u) h =
+        settle_follows t (started t s.world) (new_seat s.table t.newcomer (newcomer_record k (length s.world.procs) 0 0)) (apply k op a) rs false (seat_new t k 0 0 free) u (fault f) (leaves Close)
+        (unmet (apply k op a) u.events (ended_by (fault f)) h)
 
-  fetch_follows : (t : Turn) (k : Key) (op : Operation) (path : List ℕ) (o : Option Record) → lookup s.table k ≡ o → Follows (fetch k op path) rs (fetch_from t s op path o)
-  fetch_follows t k op path None e = m
-  fetch_follows t k op path (Some r) e =
-      unless_follows (fetch k op path) r (fetch_at t s op path r) m
-      (λ idle.
-      conclude_follows t s.world (its_seat s r) (fetch k op path) rs true (fits_known s (tales b l) v rs m r (found_in (λ x. same_key x.key k) s.table r e).0) _ _ _
-      (exchange_judged true (fetch k op path) [] [] (request_for op path []) [] (line_to t s.world r) (after_exchange r.process op r.capabilities.mask never_delayed) r.capabilities.mask nothing (λ hs f. refl)
-      (fetch_rightly k op path r.process r.capabilities.mask)))
+    begin_follows : (capacity : ℕ) (t : Turn) (k : Key) (op : Operation) (a : Asked) → Follows (apply k op a) rs (begin capacity t s k op a)
+    begin_follows capacity t k op a = go (has_free s.table) (can_start capacity s.world (key_bytes k)) refl
+      where
+        go : (y z : Bool) → has_free s.table ≡ y → Follows (apply k op a) rs (cond y
+            (cond z
+            (first_of_all (starts (key_bytes k) (Some (length s.world.procs))) (after_handshake t s k op a (greeting (wire (live t.newcomer) t.later []))))
+            (outcome (refused 10) s (starts (key_bytes k) None ∷ [])))
+            (refuse 6 s))
+        go false z e = m
+        go true false e = m
+        go true true e =
+            first_follows (apply k op a) rs (key_bytes k) (Some (length s.world.procs)) (after_handshake t s k op a (greeting (wire (live t.newcomer) t.later [])))
+            (meeting_follows t k op a e (greeting (wire (live t.newcomer) t.later [])) (greeting_told (wire (live t.newcomer) t.later []) refl))
 
-  list_follows : (t : Turn) (k : Key) (rows room : ℕ) (o : Option Record) → lookup s.table k ≡ o → Follows (list k rows room) rs (list_from t s rows room o)
-  list_follows t k rows room None e = m
-  list_follows t k rows room (Some r) e =
-      unless_follows (list k rows room) r (list_at t s rows room r) m
-      (λ idle.
-      conclude_follows t s.world (its_seat s r) (list k rows room) rs true (fits_known s (tales b l) v rs m r (found_in (λ x. same_key x.key k) s.table r e).0) _ _ _
-      (listing_judged k rows room r.capabilities.mask (line_to t s.world r) nothing))
+    -- a known record that is not reading
+    unless_follows : (c : Call) (r : Record) (o : Outcome) → Follows c rs (refuse 4 s) → (r.reading ≡ None → Follows c rs o) → Follows c rs (unless_reading s r o)
+    unless_follows c r o refuses on = go r.reading refl
+      where
+        go : (x : Option Operation) → r.reading ≡ x → Follows c rs (cond (is_some x) (refuse 4 s) o)
+        go None e = on e
+        go (Some op) e = refuses
 
-  read_follows : (t : Turn) (p : ℕ) (o : Option Record) → reading_by s.table p ≡ o → Follows (read p) rs (read_from t s o)
-  read_follows t p None e = m
-  read_follows t p (Some r) e = go r.reading
-    where
-      go : (x : Option Operation) → Follows (read p) rs (read_at t s r x)
-      go None = m
-      go (Some op) =
-          conclude_follows t s.world (its_seat s r) (read p) rs true (fits_known s (tales b l) v rs m r (found_in (λ x. x.process == p && is_reading x) s.table r e).0) _ _ _
-          (read_judged p op r.capabilities.mask (line_to t s.world r) nothing)
+    apply_to_follows : (capacity : ℕ) (t : Turn) (k : Key) (op : Operation) (a : Asked) (o : Option Record) → lookup s.table k ≡ o → Follows (apply k op a) rs (apply_to capacity t s k op a o)
+    apply_to_follows capacity t k op a None e = begin_follows capacity t k op a
+    apply_to_follows capacity t k op a (Some r) e =
+        unless_follows (apply k op a) r (apply_at t s.world (its_seat s r) (line_to t s.world r) op a) m
+        (λ idle.
+        apply_follows t s.world (its_seat s r) (line_to t s.world r) k op a rs true [] [] (fits_known s (tales b l) v places rs m r (found_in (λ x. same_key x.key k) s.table r e).0) idle nothing (λ hs f. refl))
 
-  -- what is given up
-  read_known : (p : ℕ) → is_read_from p rs ≡ list_any (λ r. r.process == p && is_reading r) (held s.table)
-  read_known p = any_same rs s.table m (λ x. x.process == p && x.reading)
+    fetch_follows : (t : Turn) (k : Key) (op : Operation) (path : List ℕ) (o : Option Record) → lookup s.table k ≡ o → Follows (fetch k op path) rs (fetch_from t s op path o)
+    fetch_follows t k op path None e = m
+    fetch_follows t k op path (Some r) e =
+        unless_follows (fetch k op path) r (fetch_at t s op path r) m
+        (λ idle.
+        conclude_follows t s.world (its_seat s r) (fetch k op path) rs true (fits_known s (tales b l) v places rs m r (found_in (λ x. same_key x.key k) s.table r e).0) _ _ _
+        (exchange_judged true (fetch k op path) [] [] (request_for op path []) [] (line_to t s.world r) (after_exchange r.process op r.capabilities.mask never_delayed) r.capabilities.mask nothing (λ hs f. refl)
+        (fetch_rightly k op path r.process r.capabilities.mask)))
 
-  give_up_follows : (t : Turn) (p : ℕ) (o : Option Record) → reading_by s.table p ≡ o → Follows (give_up p) rs (give_up_at t s o)
-  give_up_follows t p None e =
-      subst (λ z. Matches (cond z (others p rs) rs) s.table) (sym (read_known p ∙ none_found (λ r. r.process == p && is_reading r) s.table e)) m
-  give_up_follows t p (Some r) e =
-      let i = found_in (λ x. x.process == p && is_reading x) s.table r e in
-      let same : r.process ≡ p = eqb-true r.process p (and_parts (r.process == p) (is_reading r) i.1).0 in
-      subst (λ z. Matches (cond z (others p rs) rs) (without s.table r.key)) (sym (read_known p ∙ some_found (λ x. x.process == p && is_reading x) s.table r e))
-      (subst (λ n. Matches (others n rs) (without s.table r.key)) same (fits_known s (tales b l) v rs m r i.0).out)
+    list_follows : (t : Turn) (k : Key) (rows room : ℕ) (o : Option Record) → lookup s.table k ≡ o → Follows (list k rows room) rs (list_from t s rows room o)
+    list_follows t k rows room None e = m
+    list_follows t k rows room (Some r) e =
+        unless_follows (list k rows room) r (list_at t s rows room r) m
+        (λ idle.
+        conclude_follows t s.world (its_seat s r) (list k rows room) rs true (fits_known s (tales b l) v places rs m r (found_in (λ x. same_key x.key k) s.table r e).0) _ _ _
+        (listing_judged k rows room r.capabilities.mask (line_to t s.world r) nothing))
 
-  close_follows : (t : Turn) → Follows close_all rs (close t s)
-  close_follows t = go (list_any is_reading (held s.table)) refl
-    where
-      go : (z : Bool) → list_any is_reading (held s.table) ≡ z → Follows close_all rs (cond z (refuse 4 s)
-          (outcome done (state (map (λ _. None) s.table) (closed t.startable_last (held s.table) s.world)) (closings (held s.table))))
-      go true e = subst (λ y. Matches (cond y rs []) s.table) (sym (any_same rs s.table m (λ x. x.reading) ∙ e)) m
-      go false e =
-          subst (λ x. Matches (key_step close_all x rs) (map (λ _. None) s.table)) (sym (ap (seen_in None) (sym (append-nil (closings (held s.table)))) ∙ seen_closings None (held s.table) []))
-          (subst (λ y. Matches (cond y rs []) (map (λ _. None) s.table)) (sym (any_same rs s.table m (λ x. x.reading) ∙ e)) (emptied s.table))
+    read_follows : (t : Turn) (p : ℕ) (o : Option Record) → reading_by s.table p ≡ o → Follows (read p) rs (read_from t s o)
+    read_follows t p None e = m
+    read_follows t p (Some r) e = go r.reading
+      where
+        go : (x : Option Operation) → Follows (read p) rs (read_at t s r x)
+        go None = m
+        go (Some op) =
+            conclude_follows t s.world (its_seat s r) (read p) rs true (fits_known s (tales b l) v places rs m r (found_in (λ x. x.process == p && is_reading x) s.table r e).0) _ _ _
+            (read_judged p op r.capabilities.mask (line_to t s.world r) nothing)
 
-  act_follows : (capacity : ℕ) (t : Turn) (c : Call) → Follows c rs (act capacity t s c)
-  act_follows capacity t (apply k op a) = apply_to_follows capacity t k op a (lookup s.table k) refl
-  act_follows capacity t (fetch k op path) = fetch_follows t k op path (lookup s.table k) refl
-  act_follows capacity t (list k rows room) = list_follows t k rows room (lookup s.table k) refl
-  act_follows capacity t (read p) = read_follows t p (reading_by s.table p) refl
-  act_follows capacity t (give_up p) = give_up_follows t p (reading_by s.table p) refl
-  act_follows capacity t close_all = close_follows t
+    -- what is given up
+    read_known : (p : ℕ) → is_read_from p rs ≡ list_any (λ r. r.process == p && is_reading r) (held s.table)
+    read_known p = any_same places rs s.table m (λ x. x.process == p && x.reading)
 
-  -- a call that is refused for its areas or its arguments
-  refused_follows : (c : Call) (n : ℕ) → needs_areas c ≡ true → Follows c rs (refuse n s)
-  refused_follows (apply k op a) n e = m
-  refused_follows (fetch k op path) n e = m
-  refused_follows (list k rows room) n e = m
-  refused_follows (read p) n e = m
-  refused_follows (give_up p) n e = let z : ◌≡◌ {A = ℕ} 0 1 = cc in absurd (omega arith)
-  refused_follows close_all n e = let z : ◌≡◌ {A = ℕ} 0 1 = cc in absurd (omega arith)
+    give_up_follows : (t : Turn) (p : ℕ) (o : Option Record) → reading_by s.table p ≡ o → Follows (give_up p) rs (give_up_at t s o)
+    give_up_follows t p None e =
+        subst (λ z. Matches places (cond z (others p rs) rs) s.table) (sym (read_known p ∙ none_found (λ r. r.process == p && is_reading r) s.table e)) m
+    give_up_follows t p (Some r) e =
+        let i = found_in (λ x. x.process == p && is_reading x) s.table r e in
+        let same : r.process ≡ p = eqb-true r.process p (and_parts (r.process == p) (is_reading r) i.1).0 in
+        subst (λ z. Matches places (cond z (others p rs) rs) (without s.table r.key)) (sym (read_known p ∙ some_found (λ x. x.process == p && is_reading x) s.table r e))
+        (subst (λ n. Matches places (others n rs) (without s.table r.key)) same (fits_known s (tales b l) v places rs m r i.0).out)
 
-  outside_needs : (c : Call) → is_within c ≡ false → needs_areas c ≡ true
-  outside_needs (apply k op a) e = refl
-  outside_needs (fetch k op path) e = refl
-  outside_needs (list k rows room) e = refl
-  outside_needs (read p) e = refl
-  outside_needs (give_up p) e = let z : ◌≡◌ {A = ℕ} 0 1 = cc in absurd (omega arith)
-  outside_needs close_all e = let z : ◌≡◌ {A = ℕ} 0 1 = cc in absurd (omega arith)
+    close_follows : (t : Turn) → Follows close_all rs (close t s)
+    close_follows t = go (list_any is_reading (held s.table)) refl
+      where
+        go : (z : Bool) → list_any is_reading (held s.table) ≡ z → Follows close_all rs (cond z (refuse 4 s)
+            (outcome done (state (map (λ _. None) s.table) (closed t.startable_last (held s.table) s.world)) (closings (held s.table))))
+        go true e = subst (λ y. Matches places (cond y rs []) s.table) (sym (any_same places rs s.table m (λ x. x.reading) ∙ e)) m
+        go false e =
+            subst (λ x. Matches places (key_step close_all x rs) (map (λ _. None) s.table)) (sym (ap (seen_in None) (sym (append-nil (closings (held s.table)))) ∙ seen_closings None (held s.table) []))
+            (subst (λ y. Matches places (cond y rs []) (map (λ _. None) s.table)) (sym (any_same places rs s.table m (λ x. x.reading) ∙ e)) (emptied places rs s.table m))
 
-  step_follows : (capacity : ℕ) (t : Turn) → Follows t.call rs (step capacity t s)
-  step_follows capacity t = areas_first (needs_areas t.call && not t.has_room) refl
-    where
-      within : (z : Bool) → is_within t.call ≡ z → Follows t.call rs (cond z (act capacity t s t.call) (refuse 2 s))
-      within true e = act_follows capacity t t.call
-      within false e = refused_follows t.call 2 (outside_needs t.call e)
+    act_follows : (capacity : ℕ) (t : Turn) (c : Call) → Follows c rs (act capacity t s c)
+    act_follows capacity t (apply k op a) = apply_to_follows capacity t k op a (lookup s.table k) refl
+    act_follows capacity t (fetch k op path) = fetch_follows t k op path (lookup s.table k) refl
+    act_follows capacity t (list k rows room) = list_follows t k rows room (lookup s.table k) refl
+    act_follows capacity t (read p) = read_follows t p (reading_by s.table p) refl
+    act_follows capacity t (give_up p) = give_up_follows t p (reading_by s.table p) refl
+    act_follows capacity t close_all = close_follows t
 
-      areas_first : (z : Bool) → (needs_areas t.call && not t.has_room) ≡ z → Follows t.call rs (cond z (refuse 1 s) (cond (is_within t.call) (act capacity t s t.call) (refuse 2 s)))
-      areas_first true e = refused_follows t.call 1 (and_parts (needs_areas t.call) (not t.has_room) e).0
-      areas_first false e = within (is_within t.call) refl
+    -- a call that is refused for its areas or its arguments
+    refused_follows : (c : Call) (n : ℕ) → needs_areas c ≡ true → Follows c rs (refuse n s)
+    refused_follows (apply k op a) n e = m
+    refused_follows (fetch k op path) n e = m
+    refused_follows (list k rows room) n e = m
+    refused_follows (read p) n e = m
+    refused_follows (give_up p) n e = let z : ◌≡◌ {A = ℕ} 0 1 = cc in absurd (omega arith)
+    refused_follows close_all n e = let z : ◌≡◌ {A = ℕ} 0 1 = cc in absurd (omega arith)
+
+    step_follows : (capacity : ℕ) (t : Turn) → Follows t.call rs (step capacity t s)
+    step_follows capacity t = areas_first (needs_areas t.call && not t.has_room) refl
+      where
+        within : (z : Bool) → is_within t.call ≡ z → Follows t.call rs (cond z (act capacity t s t.call) (refuse 2 s))
+        within true e = act_follows capacity t t.call
+        within false e = refused_follows t.call 2 (outside_needs t.call e)
+
+        areas_first : (z : Bool) → (needs_areas t.call && not t.has_room) ≡ z → Follows t.call rs (cond z (refuse 1 s) (cond (is_within t.call) (act capacity t s t.call) (refuse 2 s)))
+        areas_first true e = refused_follows t.call 1 (and_parts (needs_areas t.call) (not t.has_room) e).0
+        areas_first false e = within (is_within t.call) refl
 
 -- A list of calls
 
-run_follows : (capacity : ℕ) (ts : List Turn) (l : Life) (rs : List Runner) → Table l.now l.book l.ledger → Matches rs l.now.table → Matches (key (seen_calls capacity ts l) rs) (run capacity ts l).now.table
-run_follows capacity [] l rs v m = m
-run_follows capacity (t ∷ ts) l rs v m =
-    run_follows capacity ts (turn capacity t l) (key_step t.call (seen_of (step capacity t l.now)) rs) (step_stands Good good_keeps capacity t l.now l.book l.ledger v)
-    (step_follows l.now l.book l.ledger v rs m capacity t)
+run_follows : (places capacity : ℕ) (ts : List Turn) (l : Life) (rs : List Runner) → Table l.now l.book l.ledger → Matches places rs l.now.table → Matches places (key (seen_calls capacity ts l) rs) (run capacity ts l).now.table
+run_follows places capacity [] l rs v m = m
+run_follows places capacity (t ∷ ts) l rs v m =
+    run_follows places capacity ts (turn capacity t l) (key_step t.call (seen_of (step capacity t l.now)) rs) (step_stands Good good_keeps capacity t l.now l.book l.ledger v)
+    (step_follows places l.now l.book l.ledger v rs m capacity t)
 
-keyed_by : (l : Life) (rs : List Runner) → Table l.now l.book l.ledger → Matches rs l.now.table → Keyed l rs
-keyed_by l rs v m = record {
-  runs = λ p. sym (runs_open l.now.table l.now.world.procs (tales l.book l.ledger) v rs m p);
-  once = once_each l.now.table l.now.world.procs (tales l.book l.ledger) v rs m;
-  few = few_runners rs l.now.table m;
+keyed_by : (places : ℕ) (l : Life) (rs : List Runner) → Table l.now l.book l.ledger → Matches places rs l.now.table → Keyed places l rs
+keyed_by places l rs v m = record {
+  runs = λ p. sym (runs_open l.now.table l.now.world.procs (tales l.book l.ledger) v places rs m p);
+  once = once_each l.now.table l.now.world.procs (tales l.book l.ledger) v places rs m;
+  few = few_runners places rs l.now.table m;
 }
 
 pub key_stands : KeyStands
 key_stands capacity l b turns =
-    keyed_by (run capacity turns l) (key (seen_calls capacity turns l) []) (stands Good good_keeps capacity l b turns)
-    (run_follows capacity turns l [] (begins_holds Good l b) (λ f. sym (none_held (λ r. f (runner_of r)) l.now.table b.empty)))
+    keyed_by (length l.now.table) (run capacity turns l) (key (seen_calls capacity turns l) []) (stands Good good_keeps capacity l b turns)
+    (run_follows (length l.now.table) capacity turns l [] (begins_holds Good l b) (record { counts = λ f. sym (none_held (λ r. f (runner_of r)) l.now.table b.empty); long = refl }))

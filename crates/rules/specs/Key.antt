@@ -131,15 +131,15 @@ key (x ∷ xs) rs = key xs (key_step x.0 x.1 rs)
 
 -- What it says
 
--- These runners are the open processes of a life, each once, and no more than its table has places.
-pub record Keyed (l : Life) (rs : List Runner) : Type 0 where
+-- These runners are the open processes of a life, each once, and at most so many.
+pub record Keyed (places : ℕ) (l : Life) (rs : List Runner) : Type 0 where
   pub runs : (p : ℕ) → is_open (process l.now.world p) ≡ is_running p rs
   pub once : (p : ℕ) → count_by (λ r. r.process == p) rs ≤ 1
-  pub few : length rs ≤ length l.now.table
+  pub few : length rs ≤ places
 
--- so the key to what is seen of these turns, from this life on, tells what runs at their end
+-- so the key to what is seen of these turns tells what runs at their end; there are no more runners than the table has places
 abbrev pub KeyFits : ℕ → List Turn → Life → Type 0
-KeyFits capacity turns l = Keyed (run capacity turns l) (key (seen_calls capacity turns l) [])
+KeyFits capacity turns l = Keyed (length l.now.table) (run capacity turns l) (key (seen_calls capacity turns l) [])
 
 -- after every list of calls, whatever the host leaves free
 abbrev pub KeyStands : Type 0
