@@ -45,10 +45,10 @@ pub record Tells (gs : List Pkt) (t : Telling) (es : List Event) : Type 0 where
   pub tells : telling Previous after ≡ t
 
 -- a fault came behind packets gs, and whatever was told before, this is left of it
-pub record Breaks (gs : List Pkt) (f : LineFault) (es : List Event) : Type 0 where
-  pub after : List Pkt
-  pub given : Given es (gs ++ after)
-  pub leaves : (s : Status) → telling s after ≡ left_by f
+record Breaks (gs : List Pkt) (f : LineFault) (es : List Event) : Type 0 where
+  after : List Pkt
+  given : Given es (gs ++ after)
+  leaves : (s : Status) → telling s after ≡ left_by f
 
 -- One packet
 
@@ -96,7 +96,7 @@ module _ (gs ss : List Pkt) where
   wanted_hears response_end v s = (record { after = response_end ∷ []; given = given_by (gs ++ response_end ∷ []) ss v.events s; leaves = λ t. refl }, refl)
   wanted_hears (line l) v s = s
 
-  pub content_hears : (v : Wire) → Sofar gs ss v.events → Always NextContent (ContentBreaks gs) (read_content v)
+  content_hears : (v : Wire) → Sofar gs ss v.events → Always NextContent (ContentBreaks gs) (read_content v)
   unfolding breaks_cut
   content_hears v s =
       then_always Next (ContentBreaks gs) NextContent (read v) wanted
@@ -170,12 +170,12 @@ module _ (gs ss : List Pkt) where
       (λ f u b. record { after = hs ++ b.after; given = b.given ∙ append_assoc gs hs b.after; tells = e b.after ∙ b.leaves s }))
       (status_goes k (status_in_tells k) s hs e)
 
-  pub status_tells : (v : Wire) → Sofar gs ss v.events → Always (TellsStatus gs) (TellsNone gs) (read_status v)
+  status_tells : (v : Wire) → Sofar gs ss v.events → Always (TellsStatus gs) (TellsNone gs) (read_status v)
   unfolding gather
   status_tells v c =
       status_in_tells (suc (length (waiting_of v.end))) Previous v [] (subst (λ xs. Sofar xs ss v.events) (sym (append-nil gs)) c) (λ rest. refl)
 
-  pub first_tells : (v : Wire) → Sofar gs ss v.events → Always (TellsFirst gs) (TellsNone gs) (status_then tt v)
+  first_tells : (v : Wire) → Sofar gs ss v.events → Always (TellsFirst gs) (TellsNone gs) (status_then tt v)
   first_tells v c = then_always (TellsStatus gs) (TellsNone gs) (TellsFirst gs) (read_status v) as_first (status_tells v c) (λ s u t. (s, t, refl))
 
 -- Sends
@@ -193,7 +193,7 @@ module _ (gs : List Pkt) where
   abbrev Said : {A : Type 0} → A → Wire → Type 0
   Said a u = (ts : List Pkt) × Sofar gs ts u.events
 
-  pub send_tells : (ps ss : List Pkt) (v : Wire) → Sofar gs ss v.events → Always Said (Cuts gs) (send_all ps v)
+  send_tells : (ps ss : List Pkt) (v : Wire) → Sofar gs ss v.events → Always Said (Cuts gs) (send_all ps v)
   send_tells ps ss v s =
       weaken (λ a u. Heard (AllSent ps) gs ss a u × Whole a u) Said (λ f u. Cutoff NoneGiven gs f u × (left_by f ≡ cut)) (Cuts gs) (send_all ps v)
       (join (Heard (AllSent ps) gs ss) Whole (Cutoff NoneGiven gs) (λ f u. left_by f ≡ cut) (send_all ps v) (passed_always v gs ss s (AllSent ps) NoneGiven (send_all ps v) (send_all_passes ps v).by) (send_cuts ps v))
