@@ -83,7 +83,7 @@ fn add<'a>(rows: &mut Rows<'_, Meta<'a>>, key: &'a [u8], value: Option<&'a [u8]>
     requires { rows.old.count < length rows.old.rows.now }
     ensures lender { rows.new.rows.ghost_name ≡ rows.old.rows.ghost_name }
     ensures count { rows.new.count ≤ rows.old.count + 1 }
-    ensures lines { map meta_line (take rows.new.count rows.new.rows.now) ≡ map meta_line (take rows.old.count rows.old.rows.now) ++ line_if key.now (option_map (λ x. x.now) value) }
+    ensures lines { map meta_line (take rows.new.count rows.new.rows.now) ≡ map meta_line (take rows.old.count rows.old.rows.now) ++ line_if key.now (option_map (λ x. x.now) value.entry) }
 {
     if let Some(value) = value {
         match rows.push(Meta { key, value }) {
