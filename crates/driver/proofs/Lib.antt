@@ -1,1 +1,2 @@
 pub mod Saying
+pub mod Lines

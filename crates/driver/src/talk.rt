@@ -16,6 +16,7 @@ ghost use Rattle.records.specs.Limits.{is_path};
 ghost use Rattle.records.specs.declared.context.Delay.{Delay as DelayOf};
 ghost use Rattle.rules.specs.Steps.{exchange, request_for, asked_lines, greeting, line_if};
 ghost use Rattle.driver.specs.Asking.{asked_of};
+ghost use Rattle.driver.specs.Knowing.{known_lines};
 
 use client::inner;
 use client::invoke::Meta;
@@ -82,6 +83,7 @@ fn invoke<H: Host>(
 fn add<'a>(rows: &mut Rows<'_, Meta<'a>>, key: &'a [u8], value: Option<&'a [u8]>)
     requires { rows.old.count < length rows.old.rows.now }
     ensures lender { rows.new.rows.ghost_name ≡ rows.old.rows.ghost_name }
+    ensures space { length rows.new.rows.now ≡ length rows.old.rows.now }
     ensures count { rows.new.count ≤ rows.old.count + 1 }
     ensures lines { map meta_line (take rows.new.count rows.new.rows.now) ≡ map meta_line (take rows.old.count rows.old.rows.now) ++ line_if key.now (option_map (λ x. x.now) value.entry) }
 {
@@ -91,6 +93,51 @@ fn add<'a>(rows: &mut Rows<'_, Meta<'a>>, key: &'a [u8], value: Option<&'a [u8]>
             Err(_) => unreachable!(),
         }
     }
+}
+
+/// What a process is told of a content, with the digits of its ids.
+#[derive(Clone, Copy)]
+struct Known<'a> {
+    rela_path: &'a [u8],
+    ref_name: Option<&'a [u8]>,
+    treeish: Option<&'a [u8]>,
+    blob: Option<&'a [u8]>,
+    delays: bool,
+}
+
+/// What is known is told, and the content is given; the status that the process answers.
+fn tell<H: Host>(
+    host: &mut H,
+    process: usize,
+    work: &mut [u8],
+    status: &mut [u8],
+    operation: Operation,
+    known: &Known<'_>,
+    content: &[u8],
+) -> Result<Status, LineFault>
+    requires room { have_room work.old status.old ≡ true }
+    requires sendable { all_sendable (request_for operation known.now.rela_path.now (known_lines known.now)) ≡ true }
+    ensures { Talks (exchange (request_for operation known.now.rela_path.now (known_lines known.now)) content.now) (sight (H.log host.old) (H.world host.old)) process (areas work.old status.old) result (sight (H.log host.new) (H.world host.new)) (areas work.new status.new) }
+{
+    let mut space = [Meta {
+        key: b"",
+        value: b"",
+    }; 5];
+    let mut rows = Rows::new(&mut space);
+    add(&mut rows, b"pathname", Some(known.rela_path));
+    add(&mut rows, b"ref", known.ref_name);
+    add(&mut rows, b"treeish", known.treeish);
+    add(&mut rows, b"blob", known.blob);
+    add(&mut rows, b"can-delay", known.delays.then_some(b"1"));
+    invoke(
+        host,
+        process,
+        work,
+        status,
+        operation.as_bytes(),
+        rows.as_slice(),
+        content,
+    )
 }
 
 /// What is asked of a content is told, and the content is given; the status that the process answers.
@@ -110,29 +157,14 @@ pub(crate) fn ask<H: Host>(
 {
     let treeish = context.treeish.map(|id| id.to_hex());
     let blob = context.blob.map(|id| id.to_hex());
-    let mut space = [Meta {
-        key: b"",
-        value: b"",
-    }; 5];
-    let mut rows = Rows::new(&mut space);
-    add(&mut rows, b"pathname", Some(context.rela_path));
-    add(&mut rows, b"ref", context.ref_name);
-    add(
-        &mut rows,
-        b"treeish",
-        treeish.as_ref().map(|digits| &digits[..]),
-    );
-    add(&mut rows, b"blob", blob.as_ref().map(|digits| &digits[..]));
-    add(&mut rows, b"can-delay", delays.then_some(b"1"));
-    invoke(
-        host,
-        process,
-        work,
-        status,
-        operation.as_bytes(),
-        rows.as_slice(),
-        content,
-    )
+    let known = Known {
+        rela_path: context.rela_path,
+        ref_name: context.ref_name,
+        treeish: treeish.as_ref().map(|digits| &digits[..]),
+        blob: blob.as_ref().map(|digits| &digits[..]),
+        delays,
+    };
+    tell(host, process, work, status, operation, &known, content)
 }
 
 /// What was delayed is asked for by its path; the status that the process answers.
