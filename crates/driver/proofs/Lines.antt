@@ -20,15 +20,15 @@ behind first a b c d = append_assoc ((first ∷ a) ++ b) c d ∙ append_assoc (f
 
 -- a path's line, and then each line that is known
 pub known_by : (k : Known) (one : Bor (List ℕ)) (o : Option (Bor (List ℕ))) {l₀ l₁ l₂ l₃ l₄ l₅ : List Pkt} → one.now ≡ codes "1" → o ≡ then_some k.delays one → l₀ ≡ []
-    → l₁ ≡ l₀ ++ line_if (codes "pathname") (Some k.rela_path.now) → l₂ ≡ l₁ ++ line_if (codes "ref") (option_map (λ x. x.now) k.ref_name)
-    → l₃ ≡ l₂ ++ line_if (codes "treeish") (option_map (λ x. x.now) k.treeish) → l₄ ≡ l₃ ++ line_if (codes "blob") (option_map (λ x. x.now) k.blob)
-    → l₅ ≡ l₄ ++ line_if (codes "can-delay") (option_map (λ x. x.now) o) → l₅ ≡ pair_line (codes "pathname") k.rela_path.now ∷ known_lines k
+    → l₁ ≡ l₀ ++ line_if (codes "pathname") (Some k.context.now.rela_path.now) → l₂ ≡ l₁ ++ line_if (codes "ref") (option_map (λ x. x.now) k.context.now.ref_name)
+    → l₃ ≡ l₂ ++ line_if (codes "treeish") k.treeish → l₄ ≡ l₃ ++ line_if (codes "blob") k.blob
+    → l₅ ≡ l₄ ++ line_if (codes "can-delay") (option_map (λ x. x.now) o) → l₅ ≡ pair_line (codes "pathname") k.context.now.rela_path.now ∷ known_lines k
 known_by k one o is_one is e₀ e₁ e₂ e₃ e₄ e₅ =
-    let path : List Pkt = line_if (codes "pathname") (Some k.rela_path.now) in
-    let ref : List Pkt = line_if (codes "ref") (option_map (λ x. x.now) k.ref_name) in
-    let treeish : List Pkt = line_if (codes "treeish") (option_map (λ x. x.now) k.treeish) in
-    let blob : List Pkt = line_if (codes "blob") (option_map (λ x. x.now) k.blob) in
+    let path : List Pkt = line_if (codes "pathname") (Some k.context.now.rela_path.now) in
+    let ref : List Pkt = line_if (codes "ref") (option_map (λ x. x.now) k.context.now.ref_name) in
+    let treeish : List Pkt = line_if (codes "treeish") k.treeish in
+    let blob : List Pkt = line_if (codes "blob") k.blob in
     let delay : List Pkt = line_if (codes "can-delay") (option_map (λ x. x.now) o) in
     e₅ ∙ ap (λ l. l ++ delay) (e₄ ∙ ap (λ l. l ++ blob) (e₃ ∙ ap (λ l. l ++ treeish) (e₂ ∙ ap (λ l. l ++ ref) (e₁ ∙ ap (λ l. l ++ path) e₀))))
-    ∙ behind (pair_line (codes "pathname") k.rela_path.now) ref treeish blob delay
-    ∙ ap (λ d. pair_line (codes "pathname") k.rela_path.now ∷ (ref ++ (treeish ++ (blob ++ d)))) (delay_line k.delays one o is_one is)
+    ∙ behind (pair_line (codes "pathname") k.context.now.rela_path.now) ref treeish blob delay
+    ∙ ap (λ d. pair_line (codes "pathname") k.context.now.rela_path.now ∷ (ref ++ (treeish ++ (blob ++ d)))) (delay_line k.delays one o is_one is)

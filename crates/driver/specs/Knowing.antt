@@ -7,5 +7,5 @@ use Rattle.driver.specs.declared.talk.Known.{Known}
 
 abbrev pub known_lines : Known → List Pkt
 known_lines k =
-    line_if (codes "ref") (option_map (λ x. x.now) k.ref_name) ++ (line_if (codes "treeish") (option_map (λ x. x.now) k.treeish) ++ (line_if (codes "blob") (option_map (λ x. x.now) k.blob)
+    line_if (codes "ref") (option_map (λ x. x.now) k.context.now.ref_name) ++ (line_if (codes "treeish") k.treeish ++ (line_if (codes "blob") k.blob
     ++ cond k.delays (pair_line (codes "can-delay") (codes "1") ∷ []) []))

@@ -14,7 +14,7 @@ ghost use Rattle.client.specs.Results.{piece_of, output_length, read_piece};
 ghost use Rattle.records.specs.Contexts.{is_context};
 ghost use Rattle.records.specs.Limits.{is_path};
 ghost use Rattle.records.specs.declared.context.Delay.{Delay as DelayOf};
-ghost use Rattle.rules.specs.Steps.{exchange, request_for, asked_lines, greeting, line_if};
+ghost use Rattle.rules.specs.Steps.{exchange, request_for, asked_lines, greeting, line_if, digits_of};
 ghost use Rattle.driver.specs.Asking.{asked_of};
 ghost use Rattle.driver.specs.Knowing.{known_lines};
 
@@ -32,6 +32,7 @@ use host::peer::Peer;
 use process::area::StatusArea;
 use process::status::Status;
 use records::context::Context;
+use records::id::ObjectId;
 use records::names::{desired, prefix};
 use records::operation::Operation;
 use slices::rows::Rows;
@@ -95,39 +96,55 @@ fn add<'a>(rows: &mut Rows<'_, Meta<'a>>, key: &'a [u8], value: Option<&'a [u8]>
     }
 }
 
+/// The digits of an id, if there is one.
+fn digits(id: Option<ObjectId>) -> Option<[u8; 40]>
+    ensures { result ≡ digits_of id }
+{
+    Some(id?.to_hex())
+}
+
+/// Digits as a line takes them.
+fn borrowed(digits: &Option<[u8; 40]>) -> Option<&[u8]>
+    ensures { option_map (λ x. x.now) result ≡ digits.now }
+{
+    match digits {
+        Some(digits) => Some(digits),
+        None => None,
+    }
+}
+
 /// What a process is told of a content, with the digits of its ids.
 #[derive(Clone, Copy)]
 struct Known<'a> {
-    rela_path: &'a [u8],
-    ref_name: Option<&'a [u8]>,
-    treeish: Option<&'a [u8]>,
-    blob: Option<&'a [u8]>,
+    context: &'a Context<'a>,
+    treeish: Option<[u8; 40]>,
+    blob: Option<[u8; 40]>,
     delays: bool,
 }
 
 /// What is known is told, and the content is given; the status that the process answers.
-fn tell<H: Host>(
+fn tell<'a, H: Host>(
     host: &mut H,
     process: usize,
     work: &mut [u8],
     status: &mut [u8],
     operation: Operation,
-    known: &Known<'_>,
+    known: &'a Known<'a>,
     content: &[u8],
 ) -> Result<Status, LineFault>
     requires room { have_room work.old status.old ≡ true }
-    requires sendable { all_sendable (request_for operation known.now.rela_path.now (known_lines known.now)) ≡ true }
-    ensures { Talks (exchange (request_for operation known.now.rela_path.now (known_lines known.now)) content.now) (sight (H.log host.old) (H.world host.old)) process (areas work.old status.old) result (sight (H.log host.new) (H.world host.new)) (areas work.new status.new) }
+    requires sendable { all_sendable (request_for operation known.now.context.now.rela_path.now (known_lines known.now)) ≡ true }
+    ensures { Talks (exchange (request_for operation known.now.context.now.rela_path.now (known_lines known.now)) content.now) (sight (H.log host.old) (H.world host.old)) process (areas work.old status.old) result (sight (H.log host.new) (H.world host.new)) (areas work.new status.new) }
 {
     let mut space = [Meta {
         key: b"",
         value: b"",
     }; 5];
     let mut rows = Rows::new(&mut space);
-    add(&mut rows, b"pathname", Some(known.rela_path));
-    add(&mut rows, b"ref", known.ref_name);
-    add(&mut rows, b"treeish", known.treeish);
-    add(&mut rows, b"blob", known.blob);
+    add(&mut rows, b"pathname", Some(known.context.rela_path));
+    add(&mut rows, b"ref", known.context.ref_name);
+    add(&mut rows, b"treeish", borrowed(&known.treeish));
+    add(&mut rows, b"blob", borrowed(&known.blob));
     add(&mut rows, b"can-delay", known.delays.then_some(b"1"));
     invoke(
         host,
@@ -155,13 +172,10 @@ pub(crate) fn ask<H: Host>(
     requires within { is_context context.now ≡ true }
     ensures { (delay : DelayOf) → Talks (exchange (request_for operation context.now.rela_path.now (asked_lines (asked_of context.now delay content.now) delays)) content.now) (sight (H.log host.old) (H.world host.old)) process (areas work.old status.old) result (sight (H.log host.new) (H.world host.new)) (areas work.new status.new) }
 {
-    let treeish = context.treeish.map(|id| id.to_hex());
-    let blob = context.blob.map(|id| id.to_hex());
     let known = Known {
-        rela_path: context.rela_path,
-        ref_name: context.ref_name,
-        treeish: treeish.as_ref().map(|digits| &digits[..]),
-        blob: blob.as_ref().map(|digits| &digits[..]),
+        context,
+        treeish: digits(context.treeish),
+        blob: digits(context.blob),
         delays,
     };
     tell(host, process, work, status, operation, &known, content)
