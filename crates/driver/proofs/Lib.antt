@@ -1,3 +1,12 @@
-pub mod Saying
-pub mod Lines
-pub mod Launching
+mod Saying
+mod Lines
+mod Launching
+mod Closings
+mod Concluding
+mod Fetching
+mod Giving
+mod Idle
+mod Reading
+mod Refused
+mod Rooms
+mod Settling
