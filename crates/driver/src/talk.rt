@@ -107,10 +107,7 @@ fn digits(id: Option<ObjectId>) -> Option<[u8; 40]>
 fn borrowed(digits: &Option<[u8; 40]>) -> Option<&[u8]>
     ensures { option_map (λ x. x.now) result ≡ digits.now }
 {
-    match digits {
-        Some(digits) => Some(digits),
-        None => None,
-    }
+    digits.as_ref().map(|digits| &digits[..])
 }
 
 /// What a process is told of a content, with the digits of its ids.
