@@ -1,5 +1,5 @@
 -- A process for a key that no record has: where no place is free, where its command cannot be started, where hands cannot be shaken, and where they were.
-use Rattle.std.proofs.Common.{◌≡◌, ℕ, ◌<◌, Bool, true, false, List, [], ◌∷◌, length, Some, Ok, Err, Result, inl, inr, refl, ◌∙◌, subst, arith}
+use Rattle.std.proofs.Common.{◌≡◌, ℕ, Bool, true, false, List, [], ◌∷◌, length, Some, Ok, Err, Result, inl, inr, refl, ◌∙◌, subst, arith}
 use Rattle.host.specs.declared.fault.NotStarted.{NotStarted}
 use Rattle.host.specs.declared.host.How.TheVariants.{Close}
 use Rattle.host.specs.Acts.{starting, ending, Grows, Started, Ended}

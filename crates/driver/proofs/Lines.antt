@@ -1,5 +1,5 @@
--- Lines that are added one by one are what is known of a content, and what is known is what is asked.
-use Rattle.std.proofs.Common.{◌≡◌, ℕ, Bool, true, false, cond, List, [], ◌∷◌, ◌++◌, Some, None, codes, Option, Bor, sym, refl, ap, ◌∙◌}
+-- Lines that are added one by one tell what is known of a content.
+use Rattle.std.proofs.Common.{◌≡◌, ℕ, Bool, true, false, cond, List, [], ◌∷◌, ◌++◌, Some, codes, Option, Bor, ap, ◌∙◌}
 use Rattle.std.specs.Option.{option_map}
 use Rattle.std.proofs.lemmas.List.{append_assoc}
 use Rattle.std.specs.Bool.{then_some}

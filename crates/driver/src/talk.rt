@@ -111,6 +111,7 @@ fn borrowed(digits: &Option<[u8; 40]>) -> Option<&[u8]>
 }
 
 /// What a process is told of a content, with the digits of its ids.
+// Digits are owned, so that what its lines borrow all lives as long.
 #[derive(Clone, Copy)]
 struct Known<'a> {
     context: &'a Context<'a>,
