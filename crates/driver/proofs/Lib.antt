@@ -1,3 +1,6 @@
+mod Saying
+mod Lines
+mod Launching
 mod Closings
 mod Concluding
 mod Fetching
