@@ -1,11 +1,14 @@
 -- Content that is given to a process, as a table's step.
-use Rattle.std.proofs.Common.{◌≡◌, ℕ, Bool, true, false, ◌&&◌, ◌||◌, List, Some, None, Ok, Err, Option, Result, Bor, sym, refl, ap, ◌∙◌, subst, arith, bytes_eq}
-use Rattle.std.specs.Prelude.{find}
+use Rattle.std.proofs.Common.{◌≡◌, ℕ, Bool, true, false, cond, ◌&&◌, List, [], ◌∷◌, ◌++◌, length, Some, None, Ok, Err, Option, Result, ◌⊎◌, inl, inr, Bor, sym, refl, ap, ◌∙◌, subst, arith, bytes_eq}
+use Rattle.std.specs.Prelude.{find, unwrap_or}
 use Rattle.std.specs.Option.{option_map, option_map_or}
+use Rattle.host.specs.declared.fault.Fault.TheVariants.{Broken}
 use Rattle.host.specs.declared.fault.LineFault.{LineFault}
-use Rattle.host.specs.Acts.{can_start, starting, Grows, Started}
-use Rattle.host.specs.Worlds.{Pipe, gone, live, process}
-use Rattle.host.specs.Talk.{Areas, areas, Later, Wire, wire, Got, got, Sight, Talks, Works}
+use Rattle.host.specs.declared.host.How.TheVariants.{Close}
+use Rattle.host.specs.declared.fault.Snag.TheVariants.{Broken as snagged}
+use Rattle.host.specs.Acts.{can_start, starting, ending, Grows, Ended}
+use Rattle.host.specs.Worlds.{next, Pipe, live, process}
+use Rattle.host.specs.Talk.{Event, Areas, areas, Later, Wire, wire, Got, got, Sight, Talks, Works}
 use Rattle.host.proofs.Talking.{talk_none}
 use Rattle.process.specs.declared.status.Status.{Status}
 use Rattle.handshake.specs.Handshakes.{Shaken}
@@ -18,19 +21,20 @@ use Rattle.records.specs.Contexts.{is_context}
 use Rattle.records.specs.Keys.{key_bytes, same_key}
 use Rattle.records.specs.Limits.{is_path, is_ref_name}
 use Rattle.records.specs.Places.{Place}
-use Rattle.records.specs.Records.{held, lookup, is_reading, without, changed, inserted}
+use Rattle.records.specs.Records.{held, lookup, is_reading, without, changed, inserted, put_first_free}
 use Rattle.rules.specs.Names.{can_do, can_delay}
-use Rattle.rules.specs.Calls.{Asked, may_delay, Call, apply, asks_within, Turn}
-use Rattle.rules.specs.Answers.{Answer, passed, fault}
-use Rattle.rules.specs.Steps.{Fate, stays, leaves, Verdict, verdict, exchange, request_for, asked_lines, after_exchange, delayed_if, after_fault, refuse, state, its_seat, seated, settle, conclude, line_to, apply_at, apply_to, unless_reading, step}
+use Rattle.rules.specs.Calls.{Asked, may_delay, Call, apply, asks_within, is_within, Turn}
+use Rattle.rules.specs.Answers.{Answer, passed, fault, refused}
+use Rattle.rules.specs.Steps.{Fate, stays, leaves, Verdict, verdict, Outcome, exchange, request_for, asked_lines, after_exchange, delayed_if, after_fault, refuse, state, its_seat, first_of_all, has_free, new_seat, newcomer_record, started, starts, greeting, seated, settle, settle_by, conclude, line_to, apply_at, apply_to, act, step}
 use Rattle.rules.specs.Promises.{IsStep}
-use Rattle.rules.proofs.Totals.{found_in, same_key_bytes}
+use Rattle.rules.proofs.Totals.{found_in, found_none, same_key_bytes, without_none}
 use Rattle.rules.proofs.Talking.{talk_later}
 use Rattle.rules.proofs.Making.{step_acts, Verdict_of, stays_step, leaves_step}
-use Rattle.rules.proofs.Refusing.{put_known}
+use Rattle.rules.proofs.Refusing.{refuses, no_room, outside, is_being_read, apply_full, apply_unstartable, unstarted, put_known, put_new}
+use Rattle.rules.proofs.Starting.{Through, through_one, through_two, new_stays, new_leaves, handshake_faults, handshake_refused, apply_passes, apply_goes, Verdict_then}
 use Rattle.driver.specs.Asking.{asked_of}
 use Rattle.driver.specs.Fates.{Settles}
-use Rattle.driver.specs.Talks.{judged, IsJudged, Gives, AppliesTo}
+use Rattle.driver.specs.Talks.{judged, IsJudged, Gives, AppliesTo, Meets, failure_of, IsFull, IsUnstarted, IsClosed, IsReady, Launches}
 
 -- what a caller asks within limits
 pub asks_so : (c : Context) (d : Delay) (content : List ℕ) → is_context c ≡ true → asks_within (asked_of c d content) ≡ true
@@ -64,34 +68,235 @@ module _ {op : Operation} {asked : Asked} {r : Record} {w : Sight} {a : Areas} {
       → fate ≡ after_fault r.capabilities.mask f → Gives op asked r w a (fault f) fate w' a'
   lost_so allowed is can f talks {fate = fate} e = said_so allowed (sym is) can (Err f) talks (fault f) fate (λ v. ap (verdict (fault f)) (sym e))
 
--- A key that a record has
+-- What the calls below leave open: replies to come, and a process where none is started
+
+no_reply : Later
+no_reply = λ n bytes waited. []
+
+some_pipe : Pipe
+some_pipe = record { waiting = []; ending = Broken; allowance = 0; snag = snagged; replies = next (λ bytes waited. []) }
+
+abbrev meeting : Key → Operation → Asked → Sight → Pipe → Later → Sight → Turn
+meeting k op asked w₁ q later w' = record { call = apply k op asked; has_room = true; newcomer = q; startable_then = w₁.world.startable; startable_last = w'.world.startable; later = later }
 
 -- one table, from what it was inserted as
 inserted_one : (table' t : List Place) → ◌≡◌ {A = Result (List Place) ℕ} (Ok t) (Ok table') → t ≡ table'
 inserted_one table' t e = cc
 
-found_key : (table : List Place) (k : Key) (r : Record) → lookup table k ≡ Some r → lookup table r.key ≡ Some r
+-- A key that a record has
+
+pub found_key : (table : List Place) (k : Key) (r : Record) → lookup table k ≡ Some r → lookup table r.key ≡ Some r
 found_key table k r e =
     ap (λ bytes. find (λ (x : Record). bytes_eq (key_bytes x.key) bytes) (held table)) (same_key_bytes r.key k (found_in (λ x. same_key x.key k) table r e).1) ∙ e
 
 module _ {A : Type 0} (f : Wire → Got A) (right : A → Wire → Verdict) (wrong : LineFault → Fate) (capacity : ℕ) (c : Call) (table : List Place) (r : Record) (found : lookup table r.key ≡ Some r)
     (w : Sight) (a : Areas) (answer : Answer) (w₁ : Sight) (a₁ : Areas) (table' : List Place) (w' : Sight)
-    (acts : (u : Turn) → u.call ≡ c → u.has_room ≡ true → step capacity u (state table w.world) ≡ conclude u w.world (its_seat (state table w.world) r) (f (line_to u w.world r)) right wrong) (rest : Later) (q : Pipe) where
+    (acts : (u : Turn) → u.call ≡ c → u.has_room ≡ true → step capacity u (state table w.world) ≡ conclude u w.world (its_seat (state table w.world) r) (f (line_to u w.world r)) right wrong) where
   verdict_same : {x : Result A LineFault} (t : Talks f w r.process a x w₁ a₁) (y : Result A LineFault)
-      → Verdict_of f table r t rest right wrong y ≡ judged right wrong y (wire (process w₁.world r.process) rest t.events)
+      → Verdict_of f table r t no_reply right wrong y ≡ judged right wrong y (wire (process w₁.world r.process) no_reply t.events)
   verdict_same t (Ok z) = refl
   verdict_same t (Err e) = refl
 
-  met_step : (fate : Fate) → IsJudged f right wrong w r.process a answer fate w₁ a₁ → Settles r fate table w₁ table' w' → IsStep capacity c true table w a answer table' w' a₁
+  -- a talk with its process was judged, and the record met its fate
+  pub met_step : (fate : Fate) → IsJudged f right wrong w r.process a answer fate w₁ a₁ → Settles r fate table w₁ table' w' → IsStep capacity c true table w a answer table' w' a₁
   met_step (stays m o) j s =
-      let later : Later = (talk_later f j.talks rest).0 in
-      let u : Turn = record { call = c; has_room = true; newcomer = q; startable_then = w'.world.startable; startable_last = w'.world.startable; later = later } in
+      let later : Later = (talk_later f j.talks no_reply).0 in
+      let u : Turn = record { call = c; has_room = true; newcomer = some_pipe; startable_then = w'.world.startable; startable_last = w'.world.startable; later = later } in
       let at : changed (λ _. seated r m o) table r.key ≡ table' = inserted_one table' (changed (λ _. seated r m o) table r.key) (sym (put_known (seated r m o) r table found) ∙ s.0) in
       subst (λ ps. IsStep capacity c true table w a answer ps w' a₁) at
       (subst (λ v. IsStep capacity c true table w a answer (changed (λ _. seated r m o) table r.key) v a₁) (sym s.1)
-      (stays_step f table r j.talks rest right wrong u refl capacity c true refl refl (acts u refl refl) answer m o (verdict_same j.talks j.said ∙ j.verdict rest)))
+      (stays_step f table r j.talks no_reply right wrong u refl capacity c true refl refl (acts u refl refl) answer m o (verdict_same j.talks j.said ∙ j.verdict no_reply)))
   met_step (leaves how) j s =
-      let later : Later = (talk_later f j.talks rest).0 in
-      let u : Turn = record { call = c; has_room = true; newcomer = q; startable_then = w'.world.startable; startable_last = w'.world.startable; later = later } in
+      let later : Later = (talk_later f j.talks no_reply).0 in
+      let u : Turn = record { call = c; has_room = true; newcomer = some_pipe; startable_then = w'.world.startable; startable_last = w'.world.startable; later = later } in
       subst (λ ps. IsStep capacity c true table w a answer ps w' a₁) (sym s.0)
-      (leaves_step f table r j.talks rest right wrong u refl capacity c true refl refl (acts u refl refl) answer how (verdict_same j.talks j.said ∙ j.verdict rest) s.1 s.2 refl)
+      (leaves_step f table r j.talks no_reply right wrong u refl capacity c true refl refl (acts u refl refl) answer how (verdict_same j.talks j.said ∙ j.verdict no_reply) s.1 s.2 refl)
+
+module _ (capacity : ℕ) (k : Key) (op : Operation) (asked : Asked) (within : asks_within asked ≡ true) (table : List Place) where
+  module _ (r : Record) (found : lookup table k ≡ Some r) (idle : is_reading r ≡ false) (w : Sight) (a : Areas) where
+    found_acts : (u : Turn) → u.call ≡ apply k op asked → u.has_room ≡ true
+        → step capacity u (state table w.world) ≡ apply_at u w.world (its_seat (state table w.world) r) (line_to u w.world r) op asked
+    found_acts u is room =
+        step_acts capacity u (state table w.world) room (ap is_within is ∙ within)
+        ∙ ap (act capacity u (state table w.world)) is
+        ∙ ap (apply_to capacity u (state table w.world) k op asked) found
+        ∙ ap (λ z. cond z (refuse 4 (state table w.world)) (apply_at u w.world (its_seat (state table w.world) r) (line_to u w.world r) op asked)) idle
+
+    abbrev Said : Wire → Got Status
+    Said = exchange (request_for op asked.rela_path (asked_lines asked (may_delay asked.delay && can_delay r.capabilities))) asked.content
+
+    abbrev Right : Status → Wire → Verdict
+    Right s v = after_exchange r.process op r.capabilities.mask (delayed_if (may_delay asked.delay && can_delay r.capabilities) r.capabilities.mask) s
+
+    -- where nothing is said
+    abbrev Silence : Wire → Got (Unit {0})
+    Silence v = got tt v
+
+    abbrev Passed : Unit {0} → Wire → Verdict
+    Passed u v = verdict passed (stays r.capabilities.mask r.reading)
+
+    acts_by : (b : Bool) → can_do op r.capabilities ≡ b → (u : Turn) → u.call ≡ apply k op asked → u.has_room ≡ true → step capacity u (state table w.world)
+        ≡ cond b (conclude u w.world (its_seat (state table w.world) r) (Said (line_to u w.world r)) (λ s v. Right s v) (after_fault r.capabilities.mask))
+        (conclude u w.world (its_seat (state table w.world) r) (Silence (line_to u w.world r)) (λ s v. Passed s v) (after_fault r.capabilities.mask))
+    acts_by b e u is room =
+        found_acts u is room ∙ ap (λ z. cond z
+        (conclude u w.world (its_seat (state table w.world) r) (Said (line_to u w.world r)) (λ s v. Right s v) (after_fault r.capabilities.mask))
+        (conclude u w.world (its_seat (state table w.world) r) (Silence (line_to u w.world r)) (λ s v. Passed s v) (after_fault r.capabilities.mask))) e
+
+    module _ {answer : Answer} {table' : List Place} {w' : Sight} {a' : Areas} (x : AppliesTo op asked r table w a answer table' w' a') where
+      abbrev Silent : Sight → Areas → Type 0
+      Silent v b = IsJudged (λ u. Silence u) (λ s u. Passed s u) (after_fault r.capabilities.mask) w r.process a answer x.fate v b
+
+      step_if : (b : Bool) → can_do op r.capabilities ≡ b → IsStep capacity (apply k op asked) true table w a answer table' w' a'
+      step_if true can =
+          met_step Said (λ s v. Right s v) (after_fault r.capabilities.mask) capacity (apply k op asked) table r (found_key table k r found) w a answer x.then a' table' w'
+          (acts_by true can) x.fate (x.gives.gives can) x.settles
+      step_if false cannot =
+          let n = x.gives.passes cannot in
+          let j : Silent w a = record { said = Ok tt; talks = talk_none (Ok tt) w r.process a; verdict = λ rest. sym n.0 } in
+          met_step (λ u. Silence u) (λ s v. Passed s v) (after_fault r.capabilities.mask) capacity (apply k op asked) table r (found_key table k r found) w a answer x.then a' table' w'
+          (acts_by false cannot) x.fate (subst (λ v. Silent v a') (sym n.1) (subst (λ b. Silent w b) (sym n.2) j)) x.settles
+
+      pub known_step : IsStep capacity (apply k op asked) true table w a answer table' w' a'
+      known_step = step_if (can_do op r.capabilities) refl
+
+  -- A key that no record has
+
+  module _ (unknown : lookup table k ≡ None) where
+    -- A process was started
+    module _ (free : has_free table ≡ true) (w w₁ : Sight) (q : Pipe) (can : can_start capacity w.world (key_bytes k) ≡ true) (procs : w₁.world.procs ≡ w.world.procs ++ live q ∷ [])
+        (began : Grows w.log (starting (key_bytes k) (Ok (length w.world.procs)) ∷ []) w₁.log) (a : Areas) (answer : Answer) (table' : List Place) (w' : Sight) where
+      abbrev Newcomer : ℕ → ℕ → Record
+      Newcomer n m = newcomer_record k (length w.world.procs) n m
+
+      -- what passed with it was judged, and the record that was to come met its fate
+      new_step : (l : Later) (es : List Event) (wₑ : Sight) (aₑ : Areas) → Through w₁ (length w.world.procs) a es wₑ aₑ → (rest : Later) (n m : ℕ) (fate : Fate) → Settles (Newcomer n m) fate table wₑ table' w'
+          → step capacity (meeting k op asked w₁ q l w') (state table w.world)
+          ≡ first_of_all (starts (key_bytes k) (Some (length w.world.procs)))
+          (settle_by (meeting k op asked w₁ q l w') (started (meeting k op asked w₁ q l w') w.world) (new_seat table q (Newcomer n m)) (wire (process wₑ.world (length w.world.procs)) rest es) answer fate)
+          → IsStep capacity (apply k op asked) true table w a answer table' w' aₑ
+      new_step l es wₑ aₑ t rest n m (stays c o) s e =
+          let put : List Place = unwrap_or (put_first_free table (seated (Newcomer n m) c o)) table in
+          let at : put ≡ table' = inserted_one table' put (sym (put_new (seated (Newcomer n m) c o) table unknown free) ∙ s.0) in
+          subst (λ ps. IsStep capacity (apply k op asked) true table w a answer ps w' aₑ) at
+          (subst (λ v. IsStep capacity (apply k op asked) true table w a answer put v aₑ) (sym s.1)
+          (new_stays capacity table k op asked w w₁ q unknown within free can procs began l w'.world.startable a es wₑ aₑ t rest (Newcomer n m) refl answer c o e))
+      new_step l es wₑ aₑ t rest n m (leaves how) s e =
+          subst (λ ps. IsStep capacity (apply k op asked) true table w a answer ps w' aₑ) (sym (s.0 ∙ without_none k table (found_none (λ x. same_key x.key k) table unknown)))
+          (new_leaves capacity table k op asked w w₁ q unknown within free can procs began l w'.world.startable a es wₑ aₑ t rest (Newcomer n m) refl answer how s.1 s.2 refl e)
+
+      -- hands were shaken with it
+      module _ (s : Shaken) {w₂ : Sight} {a₂ : Areas} (t : Talks greeting w₁ (length w.world.procs) a (Ok (Ok s)) w₂ a₂) where
+        abbrev Then : Wire → Got Status
+        Then = exchange (request_for op asked.rela_path (asked_lines asked (may_delay asked.delay && can_delay (record { mask = s.mask })))) asked.content
+
+        abbrev Judge : Status → Verdict
+        Judge st = after_exchange (length w.world.procs) op s.mask (delayed_if (may_delay asked.delay && can_delay (record { mask = s.mask })) s.mask) st
+
+        module _ {y : Result Status LineFault} {w₃ : Sight} {a₃ : Areas} (u : Talks Then w₂ (length w.world.procs) a₂ y w₃ a₃) where
+          abbrev Between : Later
+          Between = (u.goes no_reply).0
+
+          abbrev First : Later
+          First = (talk_later greeting t (u.goes no_reply).0).0
+
+          then_same : (z : Result Status LineFault)
+              → Verdict_then capacity table k op asked w w₁ q unknown within free can procs began First w'.world.startable (λ v. refl) t Between refl s refl u no_reply refl z
+              ≡ judged (λ st v. Judge st) (after_fault s.mask) z (wire (process w₃.world (length w.world.procs)) no_reply u.events)
+          then_same (Ok st) = refl
+          then_same (Err e) = refl
+
+        module _ {a' : Areas} (x : AppliesTo op asked (Newcomer s.version s.mask) table w₂ a₂ answer table' w' a') where
+          ready_if : (b : Bool) → can_do op (record { mask = s.mask }) ≡ b → IsStep capacity (apply k op asked) true table w a answer table' w' a'
+          ready_if true able =
+              let j = x.gives.gives able in
+              new_step (First j.talks) (j.talks.events ++ t.events) x.then a' (through_two t j.talks) no_reply s.version s.mask x.fate x.settles
+              (apply_goes capacity table k op asked w w₁ q unknown within free can procs began (First j.talks) w'.world.startable (λ v. refl) t (Between j.talks) refl s refl j.talks no_reply refl able
+              answer x.fate (then_same j.talks j.said ∙ j.verdict no_reply))
+          ready_if false cannot =
+              let n = x.gives.passes cannot in
+              let l : Later = (talk_later greeting t no_reply).0 in
+              let u : Turn = meeting k op asked w₁ q l w' in
+              subst (λ b. IsStep capacity (apply k op asked) true table w a answer table' w' b) (sym n.2)
+              (new_step l t.events w₂ a₂ (through_one t) no_reply s.version s.mask x.fate (subst (λ v. Settles (Newcomer s.version s.mask) x.fate table v table' w') n.1 x.settles)
+              (apply_passes capacity table k op asked w w₁ q unknown within free can procs began l w'.world.startable (λ v. refl) t no_reply refl s refl cannot
+              ∙ ap (λ d. first_of_all (starts (key_bytes k) (Some (length w.world.procs)))
+              (settle u (started u w.world) (new_seat table q (Newcomer s.version s.mask)) (wire (process w₂.world (length w.world.procs)) no_reply t.events) d)) (sym n.0)))
+
+          shaken_step : IsStep capacity (apply k op asked) true table w a answer table' w' a'
+          shaken_step = ready_if (can_do op (record { mask = s.mask })) refl
+
+      -- hands were not shaken with it
+      module _ {x : Result (Result Shaken ℕ) LineFault} {w₂ : Sight} {a₂ : Areas} (t : Talks greeting w₁ (length w.world.procs) a x w₂ a₂) (s : Settles (Newcomer 0 0) (leaves Close) table w₂ table' w') where
+        abbrev Failed : Answer → Outcome
+        Failed z =
+            let u : Turn = meeting k op asked w₁ q (talk_later greeting t no_reply).0 w' in
+            first_of_all (starts (key_bytes k) (Some (length w.world.procs)))
+            (settle_by u (started u w.world) (new_seat table q (Newcomer 0 0)) (wire (process w₂.world (length w.world.procs)) no_reply t.events) z (leaves Close))
+
+        failed_step : (z : Answer) → step capacity (meeting k op asked w₁ q (talk_later greeting t no_reply).0 w') (state table w.world) ≡ Failed z → ◌≡◌ {A = Option Answer} (Some z) (Some answer)
+            → IsStep capacity (apply k op asked) true table w a answer table' w' a₂
+        failed_step z e is =
+            let same : z ≡ answer = cc in
+            new_step (talk_later greeting t no_reply).0 t.events w₂ a₂ (through_one t) no_reply 0 0 (leaves Close) s (e ∙ ap (λ y. Failed y) same)
+
+        unshaken_step : (y : Result (Result Shaken ℕ) LineFault) → x ≡ y → failure_of y ≡ Some answer → IsStep capacity (apply k op asked) true table w a answer table' w' a₂
+        unshaken_step (Err f) is e =
+            failed_step (fault f)
+            (handshake_faults capacity table k op asked w w₁ q unknown within free can procs began (talk_later greeting t no_reply).0 w'.world.startable (λ v. refl) t no_reply refl f is) e
+        unshaken_step (Ok (Err n)) is e =
+            failed_step (refused n)
+            (handshake_refused capacity table k op asked w w₁ q unknown within free can procs began (talk_later greeting t no_reply).0 w'.world.startable (λ v. refl) t no_reply refl n is) e
+        unshaken_step (Ok (Ok r)) is e = let z : ◌≡◌ {A = ℕ} 0 1 = cc in absurd (omega arith)
+
+    -- A process was to be started
+    module _ {w : Sight} {work : List ℕ} where
+      -- its number is the next one
+      began_at : {p : ℕ} {x : Result (Result Shaken ℕ) LineFault} {w₂ : Sight} {work₂ : List ℕ} (m : Meets capacity k w work p x w₂ work₂) → Grows w.log (starting (key_bytes k) (Ok (length w.world.procs)) ∷ []) m.then.log
+      began_at m = subst (λ n. Grows w.log (starting (key_bytes k) (Ok n) ∷ []) m.then.log) m.starts.1 m.began
+
+      module _ {status : List ℕ} where
+        met_at : {p : ℕ} {x : Result (Result Shaken ℕ) LineFault} {w₂ : Sight} {work₂ : List ℕ} (m : Meets capacity k w work p x w₂ work₂)
+            → Talks greeting m.then (length w.world.procs) (areas work status) x w₂ (areas work₂ status)
+        met_at {x = x} {w₂ = w₂} {work₂ = work₂} m = subst (λ n. Talks greeting m.then n (areas work status) x w₂ (areas work₂ status)) m.starts.1 (m.greets status)
+
+        -- and there is a record to come
+        pub ready_step : {r : Record} {w₂ : Sight} {work₂ : List ℕ} {answer : Answer} {table' : List Place} {w' : Sight} {a' : Areas} → IsReady capacity k table w work r w₂ work₂
+            → AppliesTo op asked r table w₂ (areas work₂ status) answer table' w' a' → IsStep capacity (apply k op asked) true table w (areas work status) answer table' w' a'
+        ready_step {w₂ = w₂} {work₂ = work₂} {answer = answer} {table' = table'} {w' = w'} {a' = a'} i x =
+            shaken_step i.free w i.meets.then i.meets.starts.2.0 i.meets.starts.0 i.meets.starts.2.1 (began_at i.meets) (areas work status) answer table' w' i.shaken (met_at i.meets)
+            (subst (λ r. AppliesTo op asked r table w₂ (areas work₂ status) answer table' w' a') (i.is ∙ ap (λ n. newcomer_record k n i.shaken.version i.shaken.mask) i.meets.starts.1) x)
+
+        -- and there is none
+        full_step : {answer : Answer} {w' : Sight} {work' : List ℕ} → IsFull table w work answer w' work' → IsStep capacity (apply k op asked) true table w (areas work status) answer table w' (areas work' status)
+        full_step {w' = w'} {work' = work'} i =
+            let u : Turn = meeting k op asked w some_pipe no_reply w in
+            subst (λ z. IsStep capacity (apply k op asked) true table w (areas work status) z table w' (areas work' status)) (sym i.is)
+            (subst (λ v. IsStep capacity (apply k op asked) true table w (areas work status) (refused 6) table v (areas work' status)) (sym i.same)
+            (subst (λ b. IsStep capacity (apply k op asked) true table w (areas work status) (refused 6) table w (areas b status)) (sym i.same_area)
+            (refuses (areas work status) u 6 (step_acts capacity u (state table w.world) refl within ∙ apply_full capacity u (state table w.world) k op asked unknown i.full))))
+
+        unstarted_step : {answer : Answer} {w' : Sight} {work' : List ℕ} → IsUnstarted capacity k table w work answer w' work'
+            → IsStep capacity (apply k op asked) true table w (areas work status) answer table w' (areas work' status)
+        unstarted_step {w' = w'} {work' = work'} i =
+            let u : Turn = meeting k op asked w some_pipe no_reply w in
+            subst (λ z. IsStep capacity (apply k op asked) true table w (areas work status) z table w' (areas work' status)) (sym i.is)
+            (subst (λ b. IsStep capacity (apply k op asked) true table w (areas work status) (refused 10) table w' (areas b status)) (sym i.same_area)
+            (unstarted (areas work status) u (key_bytes k) i.why
+            (step_acts capacity u (state table w.world) refl within ∙ apply_unstartable capacity u (state table w.world) k op asked unknown i.free i.starts.0) i.starts.1 i.logs))
+
+        closed_step : {answer : Answer} {w' : Sight} {work' : List ℕ} → IsClosed capacity k table w work answer w' work'
+            → IsStep capacity (apply k op asked) true table w (areas work status) answer table w' (areas work' status)
+        closed_step {answer = answer} {w' = w'} {work' = work'} i =
+            unshaken_step i.free w i.meets.then i.meets.starts.2.0 i.meets.starts.0 i.meets.starts.2.1 (began_at i.meets) (areas work status) answer table w' (met_at i.meets) (
+              sym (without_none k table (found_none (λ x. same_key x.key k) table unknown)),
+              subst (λ n. Ended i.then.world n w'.world) i.meets.starts.1 i.ends,
+              subst (λ n. Grows i.then.log (ending n Close ∷ []) w'.log) i.meets.starts.1 i.logs,
+            )
+            i.said refl i.failed
+
+        pub launch_step : {answer : Answer} {w' : Sight} {work' : List ℕ} → Launches capacity k table w work (Err answer) w' work'
+            → IsStep capacity (apply k op asked) true table w (areas work status) answer table w' (areas work' status)
+        launch_step (inl i) = full_step i
+        launch_step (inr (inl i)) = unstarted_step i
+        launch_step (inr (inr i)) = closed_step i
