@@ -1,5 +1,5 @@
 -- Content that is given to a process, as a table's step.
-use Rattle.std.proofs.Common.{◌≡◌, ℕ, Bool, true, false, cond, ◌&&◌, List, [], ◌∷◌, ◌++◌, length, Some, None, Ok, Err, Option, Result, ◌⊎◌, inl, inr, Bor, sym, refl, ap, ◌∙◌, subst, arith, bytes_eq}
+use Rattle.std.proofs.Common.{◌≡◌, ℕ, Bool, true, false, cond, not, ◌&&◌, List, [], ◌∷◌, ◌++◌, length, Some, None, Ok, Err, Option, Result, ◌⊎◌, inl, inr, Bor, sym, refl, ap, ◌∙◌, subst, arith, bytes_eq}
 use Rattle.std.specs.Prelude.{find, unwrap_or}
 use Rattle.std.specs.Option.{option_map, option_map_or}
 use Rattle.host.specs.declared.fault.Fault.TheVariants.{Broken}
@@ -36,9 +36,9 @@ use Rattle.driver.specs.Asking.{asked_of}
 use Rattle.driver.specs.Fates.{Settles}
 use Rattle.driver.specs.Talks.{judged, IsJudged, Gives, AppliesTo, Meets, failure_of, IsFull, IsUnstarted, IsClosed, IsReady, Launches}
 
--- what a caller asks within limits
-pub asks_so : (c : Context) (d : Delay) (content : List ℕ) → is_context c ≡ true → asks_within (asked_of c d content) ≡ true
-asks_so c d content e = ap (λ b. is_path c.rela_path.now && b) (named c.ref_name) ∙ e
+-- what a caller asks is within limits as its context is
+pub asks_as : (c : Context) (d : Delay) (content : List ℕ) → asks_within (asked_of c d content) ≡ is_context c
+asks_as c d content = ap (λ b. is_path c.rela_path.now && b) (named c.ref_name)
   where
     named : (o : Option (Bor (List ℕ))) → option_map_or is_ref_name (option_map (λ x. x.now) o) true ≡ option_map_or (λ name. is_ref_name name.now) o true
     named None = refl
@@ -78,6 +78,10 @@ some_pipe = record { waiting = []; ending = Broken; allowance = 0; snag = snagge
 
 abbrev meeting : Key → Operation → Asked → Sight → Pipe → Later → Sight → Turn
 meeting k op asked w₁ q later w' = record { call = apply k op asked; has_room = true; newcomer = q; startable_then = w₁.world.startable; startable_last = w'.world.startable; later = later }
+
+-- a turn in which none is started
+abbrev called : Key → Operation → Asked → Bool → Sight → Turn
+called k op asked has_room w = record { call = apply k op asked; has_room = has_room; newcomer = some_pipe; startable_then = w.world.startable; startable_last = w.world.startable; later = no_reply }
 
 -- one table, from what it was inserted as
 inserted_one : (table' t : List Place) → ◌≡◌ {A = Result (List Place) ℕ} (Ok t) (Ok table') → t ≡ table'
@@ -270,7 +274,7 @@ module _ (capacity : ℕ) (k : Key) (op : Operation) (asked : Asked) (within : a
         -- and there is none
         full_step : {answer : Answer} {w' : Sight} {work' : List ℕ} → IsFull table w work answer w' work' → IsStep capacity (apply k op asked) true table w (areas work status) answer table w' (areas work' status)
         full_step {w' = w'} {work' = work'} i =
-            let u : Turn = meeting k op asked w some_pipe no_reply w in
+            let u : Turn = called k op asked true w in
             subst (λ z. IsStep capacity (apply k op asked) true table w (areas work status) z table w' (areas work' status)) (sym i.is)
             (subst (λ v. IsStep capacity (apply k op asked) true table w (areas work status) (refused 6) table v (areas work' status)) (sym i.same)
             (subst (λ b. IsStep capacity (apply k op asked) true table w (areas work status) (refused 6) table w (areas b status)) (sym i.same_area)
@@ -279,7 +283,7 @@ module _ (capacity : ℕ) (k : Key) (op : Operation) (asked : Asked) (within : a
         unstarted_step : {answer : Answer} {w' : Sight} {work' : List ℕ} → IsUnstarted capacity k table w work answer w' work'
             → IsStep capacity (apply k op asked) true table w (areas work status) answer table w' (areas work' status)
         unstarted_step {w' = w'} {work' = work'} i =
-            let u : Turn = meeting k op asked w some_pipe no_reply w in
+            let u : Turn = called k op asked true w in
             subst (λ z. IsStep capacity (apply k op asked) true table w (areas work status) z table w' (areas work' status)) (sym i.is)
             (subst (λ b. IsStep capacity (apply k op asked) true table w (areas work status) (refused 10) table w' (areas b status)) (sym i.same_area)
             (unstarted (areas work status) u (key_bytes k) i.why
@@ -300,3 +304,24 @@ module _ (capacity : ℕ) (k : Key) (op : Operation) (asked : Asked) (within : a
         launch_step (inl i) = full_step i
         launch_step (inr (inl i)) = unstarted_step i
         launch_step (inr (inr i)) = closed_step i
+
+-- What is refused before
+
+module _ {capacity : ℕ} {k : Key} {op : Operation} {asked : Asked} {table : List Place} {w : Sight} {a : Areas} (has_room : Bool) where
+  pub short_step : has_room ≡ false → IsStep capacity (apply k op asked) has_room table w a (refused 1) table w a
+  short_step e = refuses a (called k op asked has_room w) 1 (no_room capacity (called k op asked has_room w) (state table w.world) refl e)
+
+  module _ (e : has_room ≡ true) where
+    pub outside_step : asks_within asked ≡ false → IsStep capacity (apply k op asked) has_room table w a (refused 2) table w a
+    outside_step far = refuses a (called k op asked has_room w) 2 (outside capacity (called k op asked has_room w) (state table w.world) (ap not e) far)
+
+    pub reading_step : (r : Record) → asks_within asked ≡ true → lookup table k ≡ Some r → is_reading r ≡ true → IsStep capacity (apply k op asked) has_room table w a (refused 4) table w a
+    reading_step r within found reading =
+        refuses a (called k op asked has_room w) 4
+        (step_acts capacity (called k op asked has_room w) (state table w.world) e within ∙ ap (apply_to capacity (called k op asked has_room w) (state table w.world) k op asked) found
+        ∙ is_being_read capacity (called k op asked has_room w) (state table w.world) r (apply_at (called k op asked has_room w) w.world (its_seat (state table w.world) r) (line_to (called k op asked has_room w) w.world r) op asked) reading)
+
+    -- what areas with room come to
+    pub in_room : {answer : Answer} {table' : List Place} {w' : Sight} {a' : Areas} → IsStep capacity (apply k op asked) true table w a answer table' w' a'
+        → IsStep capacity (apply k op asked) has_room table w a answer table' w' a'
+    in_room {answer} {table'} {w'} {a'} s = subst (λ b. IsStep capacity (apply k op asked) b table w a answer table' w' a') (sym e) s
