@@ -27,11 +27,14 @@ use Rattle.rules.specs.Calls.{Asked, may_delay, Call, apply, asks_within, is_wit
 use Rattle.rules.specs.Answers.{Answer, passed, fault, refused}
 use Rattle.rules.specs.Steps.{Fate, stays, leaves, Verdict, verdict, Outcome, exchange, request_for, asked_lines, after_exchange, delayed_if, after_fault, refuse, state, its_seat, first_of_all, has_free, new_seat, newcomer_record, started, starts, greeting, seated, settle, settle_by, conclude, line_to, apply_at, apply_to, act, step}
 use Rattle.rules.specs.Promises.{IsStep}
-use Rattle.rules.proofs.Totals.{found_in, found_none, same_key_bytes, without_none}
+use Rattle.rules.proofs.Totals.{found_none, without_none}
 use Rattle.rules.proofs.Talking.{talk_later}
-use Rattle.rules.proofs.Making.{step_acts, Verdict_of, stays_step, leaves_step}
-use Rattle.rules.proofs.Refusing.{refuses, no_room, outside, is_being_read, apply_full, apply_unstartable, unstarted, put_known, put_new}
+use Rattle.rules.proofs.Making.{step_acts}
+use Rattle.rules.proofs.Refusing.{is_being_read, apply_full, apply_unstartable, unstarted, put_new}
 use Rattle.rules.proofs.Starting.{Through, through_one, through_two, new_stays, new_leaves, handshake_faults, handshake_refused, apply_passes, apply_goes, Verdict_then}
+use Rattle.driver.proofs.Concluding.{no_reply, free_turn, concluded}
+use Rattle.driver.proofs.Refused.{not_done}
+use Rattle.driver.proofs.Settling.{known_by_key}
 use Rattle.driver.specs.Asking.{asked_of}
 use Rattle.driver.specs.Fates.{Settles}
 use Rattle.driver.specs.Talks.{judged, IsJudged, Gives, AppliesTo, Meets, failure_of, IsFull, IsUnstarted, IsClosed, IsReady, Launches}
@@ -68,64 +71,12 @@ module _ {op : Operation} {asked : Asked} {r : Record} {w : Sight} {a : Areas} {
       → fate ≡ after_fault r.capabilities.mask f → Gives op asked r w a (fault f) fate w' a'
   lost_so allowed is can f talks {fate = fate} e = said_so allowed (sym is) can (Err f) talks (fault f) fate (λ v. ap (verdict (fault f)) (sym e))
 
--- What the calls below leave open: replies to come, and a process where none is started
-
-no_reply : Later
-no_reply = λ n bytes waited. []
-
-some_pipe : Pipe
-some_pipe = record { waiting = []; ending = Broken; allowance = 0; snag = snagged; replies = next (λ bytes waited. []) }
-
+-- a turn in which this process is started
 abbrev meeting : Key → Operation → Asked → Sight → Pipe → Later → Sight → Turn
 meeting k op asked w₁ q later w' = record { call = apply k op asked; has_room = true; newcomer = q; startable_then = w₁.world.startable; startable_last = w'.world.startable; later = later }
 
--- a turn in which none is started
-abbrev called : Key → Operation → Asked → Bool → Sight → Turn
-called k op asked has_room w = record { call = apply k op asked; has_room = has_room; newcomer = some_pipe; startable_then = w.world.startable; startable_last = w.world.startable; later = no_reply }
-
--- one table, from what it was inserted as
-inserted_one : (table' t : List Place) → ◌≡◌ {A = Result (List Place) ℕ} (Ok t) (Ok table') → t ≡ table'
-inserted_one table' t e = cc
-
--- A key that a record has
-
-pub found_key : (table : List Place) (k : Key) (r : Record) → lookup table k ≡ Some r → lookup table r.key ≡ Some r
-found_key table k r e =
-    ap (λ bytes. find (λ (x : Record). bytes_eq (key_bytes x.key) bytes) (held table)) (same_key_bytes r.key k (found_in (λ x. same_key x.key k) table r e).1) ∙ e
-
-module _ {A : Type 0} (f : Wire → Got A) (right : A → Wire → Verdict) (wrong : LineFault → Fate) (capacity : ℕ) (c : Call) (table : List Place) (r : Record) (found : lookup table r.key ≡ Some r)
-    (w : Sight) (a : Areas) (answer : Answer) (w₁ : Sight) (a₁ : Areas) (table' : List Place) (w' : Sight)
-    (acts : (u : Turn) → u.call ≡ c → u.has_room ≡ true → step capacity u (state table w.world) ≡ conclude u w.world (its_seat (state table w.world) r) (f (line_to u w.world r)) right wrong) where
-  verdict_same : {x : Result A LineFault} (t : Talks f w r.process a x w₁ a₁) (y : Result A LineFault)
-      → Verdict_of f table r t no_reply right wrong y ≡ judged right wrong y (wire (process w₁.world r.process) no_reply t.events)
-  verdict_same t (Ok z) = refl
-  verdict_same t (Err e) = refl
-
-  -- a talk with its process was judged, and the record met its fate
-  pub met_step : (fate : Fate) → IsJudged f right wrong w r.process a answer fate w₁ a₁ → Settles r fate table w₁ table' w' → IsStep capacity c true table w a answer table' w' a₁
-  met_step (stays m o) j s =
-      let later : Later = (talk_later f j.talks no_reply).0 in
-      let u : Turn = record { call = c; has_room = true; newcomer = some_pipe; startable_then = w'.world.startable; startable_last = w'.world.startable; later = later } in
-      let at : changed (λ _. seated r m o) table r.key ≡ table' = inserted_one table' (changed (λ _. seated r m o) table r.key) (sym (put_known (seated r m o) r table found) ∙ s.0) in
-      subst (λ ps. IsStep capacity c true table w a answer ps w' a₁) at
-      (subst (λ v. IsStep capacity c true table w a answer (changed (λ _. seated r m o) table r.key) v a₁) (sym s.1)
-      (stays_step f table r j.talks no_reply right wrong u refl capacity c true refl refl (acts u refl refl) answer m o (verdict_same j.talks j.said ∙ j.verdict no_reply)))
-  met_step (leaves how) j s =
-      let later : Later = (talk_later f j.talks no_reply).0 in
-      let u : Turn = record { call = c; has_room = true; newcomer = some_pipe; startable_then = w'.world.startable; startable_last = w'.world.startable; later = later } in
-      subst (λ ps. IsStep capacity c true table w a answer ps w' a₁) (sym s.0)
-      (leaves_step f table r j.talks no_reply right wrong u refl capacity c true refl refl (acts u refl refl) answer how (verdict_same j.talks j.said ∙ j.verdict no_reply) s.1 s.2 refl)
-
 module _ (capacity : ℕ) (k : Key) (op : Operation) (asked : Asked) (within : asks_within asked ≡ true) (table : List Place) where
   module _ (r : Record) (found : lookup table k ≡ Some r) (idle : is_reading r ≡ false) (w : Sight) (a : Areas) where
-    found_acts : (u : Turn) → u.call ≡ apply k op asked → u.has_room ≡ true
-        → step capacity u (state table w.world) ≡ apply_at u w.world (its_seat (state table w.world) r) (line_to u w.world r) op asked
-    found_acts u is room =
-        step_acts capacity u (state table w.world) room (ap is_within is ∙ within)
-        ∙ ap (act capacity u (state table w.world)) is
-        ∙ ap (apply_to capacity u (state table w.world) k op asked) found
-        ∙ ap (λ z. cond z (refuse 4 (state table w.world)) (apply_at u w.world (its_seat (state table w.world) r) (line_to u w.world r) op asked)) idle
-
     abbrev Said : Wire → Got Status
     Said = exchange (request_for op asked.rela_path (asked_lines asked (may_delay asked.delay && can_delay r.capabilities))) asked.content
 
@@ -139,27 +90,27 @@ module _ (capacity : ℕ) (k : Key) (op : Operation) (asked : Asked) (within : a
     abbrev Passed : Unit {0} → Wire → Verdict
     Passed u v = verdict passed (stays r.capabilities.mask r.reading)
 
-    acts_by : (b : Bool) → can_do op r.capabilities ≡ b → (u : Turn) → u.call ≡ apply k op asked → u.has_room ≡ true → step capacity u (state table w.world)
+    acts_by : (b : Bool) → can_do op r.capabilities ≡ b → (u : Turn) → act capacity u (state table w.world) (apply k op asked)
         ≡ cond b (conclude u w.world (its_seat (state table w.world) r) (Said (line_to u w.world r)) (λ s v. Right s v) (after_fault r.capabilities.mask))
         (conclude u w.world (its_seat (state table w.world) r) (Silence (line_to u w.world r)) (λ s v. Passed s v) (after_fault r.capabilities.mask))
-    acts_by b e u is room =
-        found_acts u is room ∙ ap (λ z. cond z
+    acts_by b e u =
+        let at : Bool → Outcome = λ z. cond z
         (conclude u w.world (its_seat (state table w.world) r) (Said (line_to u w.world r)) (λ s v. Right s v) (after_fault r.capabilities.mask))
-        (conclude u w.world (its_seat (state table w.world) r) (Silence (line_to u w.world r)) (λ s v. Passed s v) (after_fault r.capabilities.mask))) e
+        (conclude u w.world (its_seat (state table w.world) r) (Silence (line_to u w.world r)) (λ s v. Passed s v) (after_fault r.capabilities.mask)) in
+        ap (apply_to capacity u (state table w.world) k op asked) found ∙ ap (λ z. cond z (refuse 4 (state table w.world)) (at (can_do op r.capabilities))) idle ∙ ap at e
 
     module _ {answer : Answer} {table' : List Place} {w' : Sight} {a' : Areas} (x : AppliesTo op asked r table w a answer table' w' a') where
-      abbrev Silent : Sight → Areas → Type 0
-      Silent v b = IsJudged (λ u. Silence u) (λ s u. Passed s u) (after_fault r.capabilities.mask) w r.process a answer x.fate v b
-
       step_if : (b : Bool) → can_do op r.capabilities ≡ b → IsStep capacity (apply k op asked) true table w a answer table' w' a'
       step_if true can =
-          met_step Said (λ s v. Right s v) (after_fault r.capabilities.mask) capacity (apply k op asked) table r (found_key table k r found) w a answer x.then a' table' w'
-          (acts_by true can) x.fate (x.gives.gives can) x.settles
+          let j = x.gives.gives can in
+          concluded Said (λ s v. Right s v) (after_fault r.capabilities.mask) capacity (apply k op asked) table r (known_by_key table k r found) j.talks within (acts_by true can)
+          answer x.fate (λ v e. ap (judged (λ s u. Right s u) (after_fault r.capabilities.mask) j.said) e ∙ j.verdict no_reply) table' w' x.settles true refl
       step_if false cannot =
           let n = x.gives.passes cannot in
-          let j : Silent w a = record { said = Ok tt; talks = talk_none (Ok tt) w r.process a; verdict = λ rest. sym n.0 } in
-          met_step (λ u. Silence u) (λ s v. Passed s v) (after_fault r.capabilities.mask) capacity (apply k op asked) table r (found_key table k r found) w a answer x.then a' table' w'
-          (acts_by false cannot) x.fate (subst (λ v. Silent v a') (sym n.1) (subst (λ b. Silent w b) (sym n.2) j)) x.settles
+          let t : Talks (λ u. Silence u) w r.process a (Ok tt) x.then a' =
+          subst (λ v. Talks (λ u. Silence u) w r.process a (Ok tt) v a') (sym n.1) (subst (λ b. Talks (λ u. Silence u) w r.process a (Ok tt) w b) (sym n.2) (talk_none (Ok tt) w r.process a)) in
+          concluded (λ u. Silence u) (λ s v. Passed s v) (after_fault r.capabilities.mask) capacity (apply k op asked) table r (known_by_key table k r found) t within (acts_by false cannot)
+          answer x.fate (λ v e. sym n.0) table' w' x.settles true refl
 
       pub known_step : IsStep capacity (apply k op asked) true table w a answer table' w' a'
       known_step = step_if (can_do op r.capabilities) refl
@@ -181,7 +132,8 @@ module _ (capacity : ℕ) (k : Key) (op : Operation) (asked : Asked) (within : a
           → IsStep capacity (apply k op asked) true table w a answer table' w' aₑ
       new_step l es wₑ aₑ t rest n m (stays c o) s e =
           let put : List Place = unwrap_or (put_first_free table (seated (Newcomer n m) c o)) table in
-          let at : put ≡ table' = inserted_one table' put (sym (put_new (seated (Newcomer n m) c o) table unknown free) ∙ s.0) in
+          let z : ◌≡◌ {A = Result (List Place) ℕ} (Ok put) (Ok table') = sym (put_new (seated (Newcomer n m) c o) table unknown free) ∙ s.0 in
+          let at : put ≡ table' = cc in
           subst (λ ps. IsStep capacity (apply k op asked) true table w a answer ps w' aₑ) at
           (subst (λ v. IsStep capacity (apply k op asked) true table w a answer put v aₑ) (sym s.1)
           (new_stays capacity table k op asked w w₁ q unknown within free can procs began l w'.world.startable a es wₑ aₑ t rest (Newcomer n m) refl answer c o e))
@@ -272,18 +224,18 @@ module _ (capacity : ℕ) (k : Key) (op : Operation) (asked : Asked) (within : a
             (subst (λ r. AppliesTo op asked r table w₂ (areas work₂ status) answer table' w' a') (i.is ∙ ap (λ n. newcomer_record k n i.shaken.version i.shaken.mask) i.meets.starts.1) x)
 
         -- and there is none
-        full_step : {answer : Answer} {w' : Sight} {work' : List ℕ} → IsFull table w work answer w' work' → IsStep capacity (apply k op asked) true table w (areas work status) answer table w' (areas work' status)
+        full_step : {answer : Answer} {w' : Sight} {work' : List ℕ} → IsFull table w work answer w' work'
+            → IsStep capacity (apply k op asked) true table w (areas work status) answer table w' (areas work' status)
         full_step {w' = w'} {work' = work'} i =
-            let u : Turn = called k op asked true w in
             subst (λ z. IsStep capacity (apply k op asked) true table w (areas work status) z table w' (areas work' status)) (sym i.is)
             (subst (λ v. IsStep capacity (apply k op asked) true table w (areas work status) (refused 6) table v (areas work' status)) (sym i.same)
             (subst (λ b. IsStep capacity (apply k op asked) true table w (areas work status) (refused 6) table w (areas b status)) (sym i.same_area)
-            (refuses (areas work status) u 6 (step_acts capacity u (state table w.world) refl within ∙ apply_full capacity u (state table w.world) k op asked unknown i.full))))
+            (not_done capacity (apply k op asked) table w (areas work status) true refl within 6 (λ u. apply_full capacity u (state table w.world) k op asked unknown i.full))))
 
         unstarted_step : {answer : Answer} {w' : Sight} {work' : List ℕ} → IsUnstarted capacity k table w work answer w' work'
             → IsStep capacity (apply k op asked) true table w (areas work status) answer table w' (areas work' status)
         unstarted_step {w' = w'} {work' = work'} i =
-            let u : Turn = called k op asked true w in
+            let u : Turn = free_turn (apply k op asked) true in
             subst (λ z. IsStep capacity (apply k op asked) true table w (areas work status) z table w' (areas work' status)) (sym i.is)
             (subst (λ b. IsStep capacity (apply k op asked) true table w (areas work status) (refused 10) table w' (areas b status)) (sym i.same_area)
             (unstarted (areas work status) u (key_bytes k) i.why
@@ -305,23 +257,15 @@ module _ (capacity : ℕ) (k : Key) (op : Operation) (asked : Asked) (within : a
         launch_step (inr (inl i)) = unstarted_step i
         launch_step (inr (inr i)) = closed_step i
 
--- What is refused before
+-- A result that is being read, and areas with room
 
-module _ {capacity : ℕ} {k : Key} {op : Operation} {asked : Asked} {table : List Place} {w : Sight} {a : Areas} (has_room : Bool) where
-  pub short_step : has_room ≡ false → IsStep capacity (apply k op asked) has_room table w a (refused 1) table w a
-  short_step e = refuses a (called k op asked has_room w) 1 (no_room capacity (called k op asked has_room w) (state table w.world) refl e)
+module _ (capacity : ℕ) (k : Key) (op : Operation) (asked : Asked) (table : List Place) {w : Sight} {a : Areas} (has_room : Bool) (e : has_room ≡ true) where
+  pub reading_step : (r : Record) → asks_within asked ≡ true → lookup table k ≡ Some r → is_reading r ≡ true → IsStep capacity (apply k op asked) has_room table w a (refused 4) table w a
+  reading_step r within found reading =
+      not_done capacity (apply k op asked) table w a has_room e within 4
+      (λ u. ap (apply_to capacity u (state table w.world) k op asked) found
+      ∙ is_being_read capacity u (state table w.world) r (apply_at u w.world (its_seat (state table w.world) r) (line_to u w.world r) op asked) reading)
 
-  module _ (e : has_room ≡ true) where
-    pub outside_step : asks_within asked ≡ false → IsStep capacity (apply k op asked) has_room table w a (refused 2) table w a
-    outside_step far = refuses a (called k op asked has_room w) 2 (outside capacity (called k op asked has_room w) (state table w.world) (ap not e) far)
-
-    pub reading_step : (r : Record) → asks_within asked ≡ true → lookup table k ≡ Some r → is_reading r ≡ true → IsStep capacity (apply k op asked) has_room table w a (refused 4) table w a
-    reading_step r within found reading =
-        refuses a (called k op asked has_room w) 4
-        (step_acts capacity (called k op asked has_room w) (state table w.world) e within ∙ ap (apply_to capacity (called k op asked has_room w) (state table w.world) k op asked) found
-        ∙ is_being_read capacity (called k op asked has_room w) (state table w.world) r (apply_at (called k op asked has_room w) w.world (its_seat (state table w.world) r) (line_to (called k op asked has_room w) w.world r) op asked) reading)
-
-    -- what areas with room come to
-    pub in_room : {answer : Answer} {table' : List Place} {w' : Sight} {a' : Areas} → IsStep capacity (apply k op asked) true table w a answer table' w' a'
-        → IsStep capacity (apply k op asked) has_room table w a answer table' w' a'
-    in_room {answer} {table'} {w'} {a'} s = subst (λ b. IsStep capacity (apply k op asked) b table w a answer table' w' a') (sym e) s
+  pub in_room : {answer : Answer} {table' : List Place} {w' : Sight} {a' : Areas} → IsStep capacity (apply k op asked) true table w a answer table' w' a'
+      → IsStep capacity (apply k op asked) has_room table w a answer table' w' a'
+  in_room {answer} {table'} {w'} {a'} s = subst (λ b. IsStep capacity (apply k op asked) b table w a answer table' w' a') (sym e) s

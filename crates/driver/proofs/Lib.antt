@@ -1,1 +1,7 @@
-pub mod Applying
+mod Applying
+mod Concluding
+mod Giving
+mod Reading
+mod Refused
+mod Rooms
+mod Settling
