@@ -1,14 +1,12 @@
 -- Content that is given to a process, as a table's step.
-use Rattle.std.proofs.Common.{◌≡◌, ℕ, Bool, true, false, cond, not, ◌&&◌, List, [], ◌∷◌, ◌++◌, length, Some, None, Ok, Err, Option, Result, ◌⊎◌, inl, inr, Bor, sym, refl, ap, ◌∙◌, subst, arith, bytes_eq}
-use Rattle.std.specs.Prelude.{find, unwrap_or}
+use Rattle.std.proofs.Common.{◌≡◌, ℕ, Bool, true, false, cond, ◌&&◌, List, [], ◌∷◌, ◌++◌, length, Some, None, Ok, Err, Option, Result, inl, inr, Bor, sym, refl, ap, ◌∙◌, subst, arith}
+use Rattle.std.specs.Prelude.{unwrap_or}
 use Rattle.std.specs.Option.{option_map, option_map_or}
-use Rattle.host.specs.declared.fault.Fault.TheVariants.{Broken}
 use Rattle.host.specs.declared.fault.LineFault.{LineFault}
 use Rattle.host.specs.declared.host.How.TheVariants.{Close}
-use Rattle.host.specs.declared.fault.Snag.TheVariants.{Broken as snagged}
 use Rattle.host.specs.Acts.{can_start, starting, ending, Grows, Ended}
-use Rattle.host.specs.Worlds.{next, Pipe, live, process}
-use Rattle.host.specs.Talk.{Event, Areas, areas, Later, Wire, wire, Got, got, Sight, Talks, Works}
+use Rattle.host.specs.Worlds.{Pipe, live, process}
+use Rattle.host.specs.Talk.{Event, Areas, areas, Later, Wire, wire, Got, got, Sight, Talks}
 use Rattle.host.proofs.Talking.{talk_none}
 use Rattle.process.specs.declared.status.Status.{Status}
 use Rattle.handshake.specs.Handshakes.{Shaken}
@@ -21,9 +19,9 @@ use Rattle.records.specs.Contexts.{is_context}
 use Rattle.records.specs.Keys.{key_bytes, same_key}
 use Rattle.records.specs.Limits.{is_path, is_ref_name}
 use Rattle.records.specs.Places.{Place}
-use Rattle.records.specs.Records.{held, lookup, is_reading, without, changed, inserted, put_first_free}
+use Rattle.records.specs.Records.{lookup, is_reading, put_first_free}
 use Rattle.rules.specs.Names.{can_do, can_delay}
-use Rattle.rules.specs.Calls.{Asked, may_delay, Call, apply, asks_within, is_within, Turn}
+use Rattle.rules.specs.Calls.{Asked, may_delay, apply, asks_within, Turn}
 use Rattle.rules.specs.Answers.{Answer, passed, fault, refused}
 use Rattle.rules.specs.Steps.{Fate, stays, leaves, Verdict, verdict, Outcome, exchange, request_for, asked_lines, after_exchange, delayed_if, after_fault, refuse, state, its_seat, first_of_all, has_free, new_seat, newcomer_record, started, starts, greeting, seated, settle, settle_by, conclude, line_to, apply_at, apply_to, act, step}
 use Rattle.rules.specs.Promises.{IsStep}
@@ -32,12 +30,12 @@ use Rattle.rules.proofs.Talking.{talk_later}
 use Rattle.rules.proofs.Making.{step_acts}
 use Rattle.rules.proofs.Refusing.{is_being_read, apply_full, apply_unstartable, unstarted, put_new}
 use Rattle.rules.proofs.Starting.{Through, through_one, through_two, new_stays, new_leaves, handshake_faults, handshake_refused, apply_passes, apply_goes, Verdict_then}
-use Rattle.driver.proofs.Concluding.{no_reply, free_turn, concluded}
-use Rattle.driver.proofs.Refused.{not_done}
-use Rattle.driver.proofs.Settling.{known_by_key}
 use Rattle.driver.specs.Asking.{asked_of}
 use Rattle.driver.specs.Fates.{Settles}
 use Rattle.driver.specs.Talks.{judged, IsJudged, Gives, AppliesTo, Meets, failure_of, IsFull, IsUnstarted, IsClosed, IsReady, Launches}
+use Rattle.driver.proofs.Concluding.{no_reply, free_turn, concluded}
+use Rattle.driver.proofs.Refused.{not_done}
+use Rattle.driver.proofs.Settling.{known_by_key}
 
 -- what a caller asks is within limits as its context is
 pub asks_as : (c : Context) (d : Delay) (content : List ℕ) → asks_within (asked_of c d content) ≡ is_context c
