@@ -1,6 +1,9 @@
 mod Applying
+mod Closings
 mod Concluding
+mod Fetching
 mod Giving
+mod Idle
 mod Reading
 mod Refused
 mod Rooms
