@@ -1,5 +1,6 @@
 -- A talk with a record's process, and what becomes of both, is a step of the table.
 use Rattle.std.proofs.Common.{◌≡◌, ℕ, Bool, true, List, [], Some, Ok, Err, Option, Result, sym, refl, ap, ◌∙◌, subst}
+use Rattle.std.proofs.lemmas.List.{append-nil}
 use Rattle.host.specs.declared.fault.Fault.TheVariants.{Closed}
 use Rattle.host.specs.declared.fault.Snag.TheVariants.{Broken}
 use Rattle.host.specs.declared.fault.LineFault.{LineFault}
@@ -10,9 +11,9 @@ use Rattle.records.specs.Places.{Place}
 use Rattle.records.specs.Records.{changed, inserted}
 use Rattle.rules.specs.Calls.{Call, is_within, Turn}
 use Rattle.rules.specs.Answers.{Answer}
-use Rattle.rules.specs.Steps.{Fate, stays, leaves, Verdict, verdict, state, seated, its_seat, conclude, line_to, act}
-use Rattle.rules.specs.Promises.{IsStep}
-use Rattle.rules.proofs.Making.{step_acts, Verdict_of, stays_step, leaves_step}
+use Rattle.rules.specs.Steps.{Fate, stays, leaves, Verdict, verdict, state, seated, its_seat, Outcome, conclude, line_to, act, step}
+use Rattle.rules.specs.Promises.{passes, IsStep}
+use Rattle.rules.proofs.Making.{step_acts, Verdict_of, settled, stays_step, leaves_step}
 use Rattle.rules.proofs.Refusing.{put_known}
 use Rattle.rules.proofs.Talking.{talk_later}
 use Rattle.driver.specs.Fates.{Settles}
@@ -46,18 +47,28 @@ module _ {A : Type 0} (f : Wire → Got A) (right : A → Wire → Verdict) (wro
   verdict_is (Ok y) = refl
   verdict_is (Err e) = refl
 
-  with_fate : (answer : Answer) (fate : Fate) → ((v : Wire) → v ≡ wire (process w₁.world r.process) no_reply t.events → judged right wrong x v ≡ verdict answer fate)
-      → (table' : List Place) (w' : Sight) → Settles r fate table w₁ table' w' → IsStep capacity c true table w a answer table' w' a₁
-  with_fate answer (stays m o) v table' w' (put, same) =
-      subst (λ y. IsStep capacity c true table w a answer table' y a₁) (sym same)
-      (subst (λ y. IsStep capacity c true table w a answer y w₁ a₁) (sym (put_is table table' (seated r m o) known put))
-      (stays_step f table r t no_reply right wrong (the_turn (λ k. true)) refl capacity c true refl refl (step_acts capacity (the_turn (λ k. true)) (state table w.world) refl within ∙ acts (the_turn (λ k. true))) answer m o
-      (sym (verdict_is x) ∙ v (wire (process w₁.world r.process) no_reply t.events) refl)))
-  with_fate answer (leaves how) v table' w' (free, d, grown) =
-      subst (λ y. IsStep capacity c true table w a answer y w' a₁) (sym free)
-      (leaves_step f table r t no_reply right wrong (the_turn w'.world.startable) refl capacity c true refl refl (step_acts capacity (the_turn w'.world.startable) (state table w.world) refl within ∙ acts (the_turn w'.world.startable)) answer how
-      (sym (verdict_is x) ∙ v (wire (process w₁.world r.process) no_reply t.events) refl) d grown refl)
+  -- the step, and what passed in it
+  abbrev pub Concluded : Bool → Answer → List Place → Sight → Type 0
+  Concluded room answer table' w' = (s : IsStep capacity c room table w a answer table' w' a₁) × (passes (step capacity s.turn (state table w.world)).deeds ≡ t.events)
+
+  module _ (answer : Answer) where
+    goes : (u : Turn) → u.call ≡ c → u.has_room ≡ true → step capacity u (state table w.world) ≡ conclude u w.world (its_seat (state table w.world) r) (f (line_to u w.world r)) right wrong
+    goes u is room = step_acts capacity u (state table w.world) room (ap is_within is ∙ within) ∙ ap (act capacity u (state table w.world)) is ∙ acts u
+
+    with_fate : (fate : Fate) → ((v : Wire) → v ≡ wire (process w₁.world r.process) no_reply t.events → judged right wrong x v ≡ verdict answer fate)
+        → (table' : List Place) (w' : Sight) → Settles r fate table w₁ table' w' → Concluded true answer table' w'
+    with_fate (stays m o) v table' w' (put, same) =
+        let e = sym (verdict_is x) ∙ v (wire (process w₁.world r.process) no_reply t.events) refl in
+        subst (λ y. Concluded true answer table' y) (sym same)
+        (subst (λ y. Concluded true answer y w₁) (sym (put_is table table' (seated r m o) known put))
+        (stays_step f table r t no_reply right wrong (the_turn (λ k. true)) refl capacity c true refl refl (goes (the_turn (λ k. true)) refl refl) answer m o e,
+        ap (λ (z : Outcome). passes z.deeds) (settled f table r t no_reply right wrong (the_turn (λ k. true)) refl capacity c true refl refl (goes (the_turn (λ k. true)) refl refl) answer (stays m o) e) ∙ append-nil t.events))
+    with_fate (leaves how) v table' w' (free, d, grown) =
+        let e = sym (verdict_is x) ∙ v (wire (process w₁.world r.process) no_reply t.events) refl in
+        subst (λ y. Concluded true answer y w') (sym free)
+        (leaves_step f table r t no_reply right wrong (the_turn w'.world.startable) refl capacity c true refl refl (goes (the_turn w'.world.startable) refl refl) answer how e d grown refl,
+        ap (λ (z : Outcome). passes z.deeds) (settled f table r t no_reply right wrong (the_turn w'.world.startable) refl capacity c true refl refl (goes (the_turn w'.world.startable) refl refl) answer (leaves how) e) ∙ append-nil t.events)
 
   pub concluded : (answer : Answer) (fate : Fate) → ((v : Wire) → v ≡ wire (process w₁.world r.process) no_reply t.events → judged right wrong x v ≡ verdict answer fate)
-      → (table' : List Place) (w' : Sight) → Settles r fate table w₁ table' w' → (room : Bool) → room ≡ true → IsStep capacity c room table w a answer table' w' a₁
-  concluded answer fate v table' w' met room there = subst (λ z. IsStep capacity c z table w a answer table' w' a₁) (sym there) (with_fate answer fate v table' w' met)
+      → (table' : List Place) (w' : Sight) → Settles r fate table w₁ table' w' → (room : Bool) → room ≡ true → Concluded room answer table' w'
+  concluded answer fate v table' w' met room there = subst (λ z. Concluded z answer table' w') (sym there) (with_fate answer fate v table' w' met)

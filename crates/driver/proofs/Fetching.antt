@@ -40,8 +40,8 @@ module _ (capacity : ℕ) (table : List Place) (k : Key) (op : Operation) (path 
         → (table' : List Place) (w' : Sight) → Settles r fate table w₁ table' w' → IsStep capacity (fetch k op path) room table w a answer table' w' a₁
     fetch_went r e {w = w} t room there answer fate v table' w' met =
         let i = idle_yes (lookup table k) r e in
-        concluded (exchange (request_for op path []) []) (λ s _. after_exchange r.process op r.capabilities.mask never_delayed s) (after_fault r.capabilities.mask) capacity (fetch k op path) table r
-        (known_by_key table k r i.0) t within (λ u. fetch_acts u (state table w.world) k op path r i.0 i.1) answer fate (λ y _. v y) table' w' met room there
+        (concluded (exchange (request_for op path []) []) (λ s _. after_exchange r.process op r.capabilities.mask never_delayed s) (after_fault r.capabilities.mask) capacity (fetch k op path) table r
+        (known_by_key table k r i.0) t within (λ u. fetch_acts u (state table w.world) k op path r i.0 i.1) answer fate (λ y _. v y) table' w' met room there).0
 
 pub idle_known : (table : List Place) (k : Key) (r : Record) → ◌≡◌ {A = Result Record ℕ} (Ok r) (idle_record (lookup table k)) → Known table r
 idle_known table k r e = known_by_key table k r (idle_yes (lookup table k) r e).0

@@ -4,6 +4,7 @@ mod Concluding
 mod Fetching
 mod Giving
 mod Idle
+mod Listing
 mod Reading
 mod Refused
 mod Rooms

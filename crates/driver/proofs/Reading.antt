@@ -31,5 +31,5 @@ module _ (capacity p : ℕ) (table : List Place) where
       → (answer : Answer) (fate : Fate) → ((v : Wire) → judged (λ y _. after_piece op r.capabilities.mask y) (result_lost r.capabilities.mask) x v ≡ verdict answer fate)
       → (table' : List Place) (w' : Sight) → Settles r fate table w₁ table' w' → IsStep capacity (read p) room table w a answer table' w' a₁
   read_went r found op reading {w = w} t room there answer fate v table' w' met =
-      concluded read_piece (λ y _. after_piece op r.capabilities.mask y) (result_lost r.capabilities.mask) capacity (read p) table r (known_reading table p r found) t refl
-      (λ u. read_acts u (state table w.world) p r found ∙ ap (read_at u (state table w.world) r) reading) answer fate (λ y _. v y) table' w' met room there
+      (concluded read_piece (λ y _. after_piece op r.capabilities.mask y) (result_lost r.capabilities.mask) capacity (read p) table r (known_reading table p r found) t refl
+      (λ u. read_acts u (state table w.world) p r found ∙ ap (read_at u (state table w.world) r) reading) answer fate (λ y _. v y) table' w' met room there).0

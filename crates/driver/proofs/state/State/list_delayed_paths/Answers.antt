@@ -1,31 +1,22 @@
-use Rattle.std.proofs.Common.{rules, ◌≡◌, length, ℕ, ◌+◌, ◌-◌, ◌*◌, ◌<◌, ◌≤◌, ◌/◌, ◌%◌, Bool, true, false, nat_eq, nat_lt, List, [], ◌∷◌, ◌++◌, slice_index_or, slice_set, bit_and, bit_or, Fits, w8, w32, w64, Bor, MutBor}
-use Rattle.slices.specs.Answers.{told}
-use Rattle.host.specs.Talk.{Wire, sight, areas}
-use Rattle.process.specs.Given.{have_room}
-use Rattle.client.specs.Listings.{counts_of}
-use Rattle.records.specs.Records.{lookup}
-use Rattle.rules.specs.Calls.{fetch, list}
-use Rattle.rules.specs.Promises.{IsStep}
-use Rattle.rules.specs.Steps.{verdict, after_exchange, never_delayed, after_fault}
-use Rattle.rules.specs.Steps.{listed as all_or_full}
-use Rattle.driver.specs.Answers.{misuse_number, fetched, paths_listed}
-use Rattle.driver.specs.Fates.{fate_of}
-use Rattle.driver.specs.Talks.{judged, list_verdict, idle_record}
-use Rattle.driver.specs.Storing.{ListsStep}
+use Rattle.std.proofs.Common.{arith, rules}
+use Rattle.driver.proofs.Fetching.{idle_known}
+use Rattle.driver.proofs.Listing.{list_short, list_not, list_went}
+use Rattle.driver.proofs.Rooms.{with_room, without_room}
+use Rattle.driver.proofs.Settling.{known_place}
 use Rattle.driver.proofs.state.State.list_delayed_paths.Goals as goal
 
--- src/delayed.rt:128:13
 pub returns-then-work-lt-MAX_LINE_LEN : goal.returns-then-work-lt-MAX_LINE_LEN
-returns-then-work-lt-MAX_LINE_LEN g c = ?
+returns-then-work-lt-MAX_LINE_LEN g c =
+    list_short g.H.Host.capacity c.args.self.now.records.places c.args.key.now c.args.rows.now c.args.text.now _ _ _ (without_room c.args.work.now c.args.status.now c.then-work-lt-MAX_LINE_LEN.either)
 
--- src/delayed.rt:132:25
 pub returns-in-Err : goal.returns-in-Err
-returns-in-Err g c = ?
+returns-in-Err g c =
+    list_not g.H.Host.capacity c.args.self.now.records.places c.args.key.now c.args.rows.now c.args.text.now _ _ _ (with_room c.args.work.now c.args.status.now (omega arith) (omega arith)) _ (search rules)
 
--- src/delayed.rt:136:9
 pub settle-requires : goal.settle-requires
-settle-requires g c = ?
+settle-requires g c = known_place c.args.self.now.records.places c.in-Ok.«record» (idle_known c.args.self.now.records.places c.args.key.now c.in-Ok.«record» (search rules))
 
--- src/delayed.rt:116:5
 pub returns : goal.returns
-returns g c = ?
+returns g c =
+    list_went g.H.Host.capacity c.args.self.now.records.places c.args.key.now c.args.rows.now c.args.text.now c.in-Ok.«record» (search rules) c.list-told.ensures _ (with_room c.args.work.now c.args.status.now (omega arith) (omega arith))
+    _ _ c.after_listing-answer.ensures _ _ c.settle.ensures
