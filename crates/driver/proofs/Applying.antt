@@ -101,14 +101,14 @@ module _ (capacity : ℕ) (k : Key) (op : Operation) (asked : Asked) (within : a
       step_if : (b : Bool) → can_do op r.capabilities ≡ b → IsStep capacity (apply k op asked) true table w a answer table' w' a'
       step_if true can =
           let j = x.gives.gives can in
-          concluded Said (λ s v. Right s v) (after_fault r.capabilities.mask) capacity (apply k op asked) table r (known_by_key table k r found) j.talks within (acts_by true can)
-          answer x.fate (λ v e. ap (judged (λ s u. Right s u) (after_fault r.capabilities.mask) j.said) e ∙ j.verdict no_reply) table' w' x.settles true refl
+          (concluded Said (λ s v. Right s v) (after_fault r.capabilities.mask) capacity (apply k op asked) table r (known_by_key table k r found) j.talks within (acts_by true can)
+          answer x.fate (λ v e. ap (judged (λ s u. Right s u) (after_fault r.capabilities.mask) j.said) e ∙ j.verdict no_reply) table' w' x.settles true refl).0
       step_if false cannot =
           let n = x.gives.passes cannot in
           let t : Talks (λ u. Silence u) w r.process a (Ok tt) x.then a' =
           subst (λ v. Talks (λ u. Silence u) w r.process a (Ok tt) v a') (sym n.1) (subst (λ b. Talks (λ u. Silence u) w r.process a (Ok tt) w b) (sym n.2) (talk_none (Ok tt) w r.process a)) in
-          concluded (λ u. Silence u) (λ s v. Passed s v) (after_fault r.capabilities.mask) capacity (apply k op asked) table r (known_by_key table k r found) t within (acts_by false cannot)
-          answer x.fate (λ v e. sym n.0) table' w' x.settles true refl
+          (concluded (λ u. Silence u) (λ s v. Passed s v) (after_fault r.capabilities.mask) capacity (apply k op asked) table r (known_by_key table k r found) t within (acts_by false cannot)
+          answer x.fate (λ v e. sym n.0) table' w' x.settles true refl).0
 
       pub known_step : IsStep capacity (apply k op asked) true table w a answer table' w' a'
       known_step = step_if (can_do op r.capabilities) refl
