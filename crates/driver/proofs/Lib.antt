@@ -1,13 +1,14 @@
-mod Saying
-mod Lines
-mod Launching
+mod Applying
 mod Closings
 mod Concluding
 mod Fetching
 mod Giving
 mod Idle
+mod Launching
+mod Lines
 mod Listing
 mod Reading
 mod Refused
 mod Rooms
+mod Saying
 mod Settling
