@@ -1,5 +1,5 @@
 mod Applying
-mod Closings
+pub mod Closings
 mod Concluding
 mod Fetching
 mod Giving

@@ -1,6 +1,5 @@
 //! The results that an exchange left open.
 ghost use Rattle.std.specs.Prelude.{◌≡◌, ◌≤◌, length};
-ghost use Rattle.exchange.specs.Opens.{read_from, open_processes, TakesOut};
 
 use driver::inner::result_of;
 use driver::result::FilterResult;
@@ -22,6 +21,8 @@ pub enum Next {
 }
 
 impl OpenResults {
+    ghost use Rattle.exchange.specs.Opens.{read_from, open_processes, TakesOut};
+
     /// The results that a table's records are reading.
     pub(crate) fn of(table: &State) -> OpenResults
         ensures { open_processes result ≡ read_from table.now.records.places }

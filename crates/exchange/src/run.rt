@@ -72,7 +72,8 @@ fn listed(answer: Result<list::Paths, list::Error>) -> Answer
 }
 
 fn was_read(answer: Result<Option<usize>, Unread>) -> Answer
-    ensures { (area : List ℕ) → answer_in area result ≡ piece_read area answer }
+    ensures value { (area : List ℕ) → answer_in area result ≡ piece_read area answer }
+    ensures told { (area : List ℕ) → payload_length answer ≤ length area → blanked (answer_in area result) ≡ answer_of result }
 {
     match answer {
         Ok(Some(n)) => Answer::Payload(n),
@@ -103,7 +104,7 @@ fn make<H: Host>(
     text: &mut [u8],
     call: Call<'_>,
 ) -> Answer
-    ensures step { IsStep H.capacity (call_of (length rows.old) (length text.old) call) (have_room work.old status.old) table.old.records.places (sight (H.log host.old) (H.world host.old)) (areas work.old status.old) (answer_in work.new result) table.new.records.places (sight (H.log host.new) (H.world host.new)) (areas work.new status.new) }
+    ensures step { IsStep H.capacity (call_of (length rows.old) (length text.old) call.entry) (have_room work.old status.old) table.old.records.places (sight (H.log host.old) (H.world host.old)) (areas work.old status.old) (answer_in work.new result) table.new.records.places (sight (H.log host.new) (H.world host.new)) (areas work.new status.new) }
     ensures told { blanked (answer_in work.new result) ≡ answer_of result }
 {
     match call {
