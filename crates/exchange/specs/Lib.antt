@@ -1,3 +1,4 @@
 pub mod Values
 pub mod Opens
 pub mod Runs
+pub mod Tallies
