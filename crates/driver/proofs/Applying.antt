@@ -88,14 +88,14 @@ module _ (capacity : ℕ) (k : Key) (op : Operation) (asked : Asked) (within : a
     abbrev Passed : Unit {0} → Wire → Verdict
     Passed u v = verdict passed (stays r.capabilities.mask r.reading)
 
-    acts_by : (b : Bool) → can_do op r.capabilities ≡ b → (u : Turn) → act capacity u (state table w.world) (apply k op asked)
-        ≡ cond b (conclude u w.world (its_seat (state table w.world) r) (Said (line_to u w.world r)) (λ s v. Right s v) (after_fault r.capabilities.mask))
+    -- by whether the process can do the operation
+    abbrev Comes : Turn → Bool → Outcome
+    Comes u b = cond b (conclude u w.world (its_seat (state table w.world) r) (Said (line_to u w.world r)) (λ s v. Right s v) (after_fault r.capabilities.mask))
         (conclude u w.world (its_seat (state table w.world) r) (Silence (line_to u w.world r)) (λ s v. Passed s v) (after_fault r.capabilities.mask))
+
+    acts_by : (b : Bool) → can_do op r.capabilities ≡ b → (u : Turn) → act capacity u (state table w.world) (apply k op asked) ≡ Comes u b
     acts_by b e u =
-        let at : Bool → Outcome = λ z. cond z
-        (conclude u w.world (its_seat (state table w.world) r) (Said (line_to u w.world r)) (λ s v. Right s v) (after_fault r.capabilities.mask))
-        (conclude u w.world (its_seat (state table w.world) r) (Silence (line_to u w.world r)) (λ s v. Passed s v) (after_fault r.capabilities.mask)) in
-        ap (apply_to capacity u (state table w.world) k op asked) found ∙ ap (λ z. cond z (refuse 4 (state table w.world)) (at (can_do op r.capabilities))) idle ∙ ap at e
+        ap (apply_to capacity u (state table w.world) k op asked) found ∙ ap (λ z. cond z (refuse 4 (state table w.world)) (Comes u (can_do op r.capabilities))) idle ∙ ap (Comes u) e
 
     module _ {answer : Answer} {table' : List Place} {w' : Sight} {a' : Areas} (x : AppliesTo op asked r table w a answer table' w' a') where
       step_if : (b : Bool) → can_do op r.capabilities ≡ b → IsStep capacity (apply k op asked) true table w a answer table' w' a'
