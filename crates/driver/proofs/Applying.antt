@@ -88,14 +88,14 @@ module _ (capacity : ℕ) (k : Key) (op : Operation) (asked : Asked) (within : a
     abbrev Passed : Unit {0} → Wire → Verdict
     Passed u v = verdict passed (stays r.capabilities.mask r.reading)
 
-    acts_by : (b : Bool) → can_do op r.capabilities ≡ b → (u : Turn) → act capacity u (state table w.world) (apply k op asked)
-        ≡ cond b (conclude u w.world (its_seat (state table w.world) r) (Said (line_to u w.world r)) (λ s v. Right s v) (after_fault r.capabilities.mask))
+    -- by whether the process can do the operation
+    abbrev Comes : Turn → Bool → Outcome
+    Comes u b = cond b (conclude u w.world (its_seat (state table w.world) r) (Said (line_to u w.world r)) (λ s v. Right s v) (after_fault r.capabilities.mask))
         (conclude u w.world (its_seat (state table w.world) r) (Silence (line_to u w.world r)) (λ s v. Passed s v) (after_fault r.capabilities.mask))
+
+    acts_by : (b : Bool) → can_do op r.capabilities ≡ b → (u : Turn) → act capacity u (state table w.world) (apply k op asked) ≡ Comes u b
     acts_by b e u =
-        let at : Bool → Outcome = λ z. cond z
-        (conclude u w.world (its_seat (state table w.world) r) (Said (line_to u w.world r)) (λ s v. Right s v) (after_fault r.capabilities.mask))
-        (conclude u w.world (its_seat (state table w.world) r) (Silence (line_to u w.world r)) (λ s v. Passed s v) (after_fault r.capabilities.mask)) in
-        ap (apply_to capacity u (state table w.world) k op asked) found ∙ ap (λ z. cond z (refuse 4 (state table w.world)) (at (can_do op r.capabilities))) idle ∙ ap at e
+        ap (apply_to capacity u (state table w.world) k op asked) found ∙ ap (λ z. cond z (refuse 4 (state table w.world)) (Comes u (can_do op r.capabilities))) idle ∙ ap (Comes u) e
 
     module _ {answer : Answer} {table' : List Place} {w' : Sight} {a' : Areas} (x : AppliesTo op asked r table w a answer table' w' a') where
       step_if : (b : Bool) → can_do op r.capabilities ≡ b → IsStep capacity (apply k op asked) true table w a answer table' w' a'
@@ -222,22 +222,26 @@ module _ (capacity : ℕ) (k : Key) (op : Operation) (asked : Asked) (within : a
             (subst (λ r. AppliesTo op asked r table w₂ (areas work₂ status) answer table' w' a') (i.is ∙ ap (λ n. newcomer_record k n i.shaken.version i.shaken.mask) i.meets.starts.1) x)
 
         -- and there is none
+        step_as : {z z' : Answer} {v v' : Sight} {b b' : List ℕ} → z' ≡ z → v' ≡ v → b' ≡ b → IsStep capacity (apply k op asked) true table w (areas work status) z table v (areas b status)
+            → IsStep capacity (apply k op asked) true table w (areas work status) z' table v' (areas b' status)
+        step_as {z} {z'} {v} {v'} {b} {b'} is same same_area s =
+            subst (λ y. IsStep capacity (apply k op asked) true table w (areas work status) y table v' (areas b' status)) (sym is)
+            (subst (λ y. IsStep capacity (apply k op asked) true table w (areas work status) z table y (areas b' status)) (sym same)
+            (subst (λ y. IsStep capacity (apply k op asked) true table w (areas work status) z table v (areas y status)) (sym same_area) s))
+
         full_step : {answer : Answer} {w' : Sight} {work' : List ℕ} → IsFull table w work answer w' work'
             → IsStep capacity (apply k op asked) true table w (areas work status) answer table w' (areas work' status)
-        full_step {w' = w'} {work' = work'} i =
-            subst (λ z. IsStep capacity (apply k op asked) true table w (areas work status) z table w' (areas work' status)) (sym i.is)
-            (subst (λ v. IsStep capacity (apply k op asked) true table w (areas work status) (refused 6) table v (areas work' status)) (sym i.same)
-            (subst (λ b. IsStep capacity (apply k op asked) true table w (areas work status) (refused 6) table w (areas b status)) (sym i.same_area)
-            (not_done capacity (apply k op asked) table w (areas work status) true refl within 6 (λ u. apply_full capacity u (state table w.world) k op asked unknown i.full))))
+        full_step i =
+            step_as i.is i.same i.same_area
+            (not_done capacity (apply k op asked) table w (areas work status) true refl within 6 (λ u. apply_full capacity u (state table w.world) k op asked unknown i.full))
 
         unstarted_step : {answer : Answer} {w' : Sight} {work' : List ℕ} → IsUnstarted capacity k table w work answer w' work'
             → IsStep capacity (apply k op asked) true table w (areas work status) answer table w' (areas work' status)
-        unstarted_step {w' = w'} {work' = work'} i =
+        unstarted_step i =
             let u : Turn = free_turn (apply k op asked) true in
-            subst (λ z. IsStep capacity (apply k op asked) true table w (areas work status) z table w' (areas work' status)) (sym i.is)
-            (subst (λ b. IsStep capacity (apply k op asked) true table w (areas work status) (refused 10) table w' (areas b status)) (sym i.same_area)
+            step_as i.is refl i.same_area
             (unstarted (areas work status) u (key_bytes k) i.why
-            (step_acts capacity u (state table w.world) refl within ∙ apply_unstartable capacity u (state table w.world) k op asked unknown i.free i.starts.0) i.starts.1 i.logs))
+            (step_acts capacity u (state table w.world) refl within ∙ apply_unstartable capacity u (state table w.world) k op asked unknown i.free i.starts.0) i.starts.1 i.logs)
 
         closed_step : {answer : Answer} {w' : Sight} {work' : List ℕ} → IsClosed capacity k table w work answer w' work'
             → IsStep capacity (apply k op asked) true table w (areas work status) answer table w' (areas work' status)

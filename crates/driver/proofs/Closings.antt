@@ -1,5 +1,5 @@
 -- All processes are closed, place by place.
-use Rattle.std.proofs.Common.{◌≡◌, ℕ, zero, suc, ◌+◌, ◌<◌, ◌≤◌, Bool, true, false, List, [], ◌∷◌, ◌++◌, map, length, take, replicate, Some, None, Option, refl, sym, ap, ◌∙◌, subst, arith}
+use Rattle.std.proofs.Common.{◌≡◌, ℕ, zero, suc, ◌+◌, ◌<◌, ◌≤◌, Bool, true, false, List, [], ◌∷◌, ◌++◌, map, length, take, replicate, Some, None, refl, sym, ap, ◌∙◌, subst, arith}
 use Rattle.std.specs.Prelude.{slice_index_or, option_to_list}
 use Rattle.std.specs.List.{list_any}
 use Rattle.std.proofs.lemmas.List.{append-nil, take_all}
@@ -13,7 +13,7 @@ use Rattle.rules.specs.Calls.{close_all}
 use Rattle.rules.specs.Answers.{done, refused}
 use Rattle.rules.specs.Steps.{state}
 use Rattle.rules.specs.Promises.{IsStep}
-use Rattle.rules.proofs.Closing.{Closes, closes_none, closes_more, closes_step}
+use Rattle.rules.proofs.Closing.{Closes, closes_more, closes_step}
 use Rattle.rules.proofs.Refusing.{refuses, some_being_read}
 use Rattle.driver.proofs.Concluding.{free_turn, last_turn}
 

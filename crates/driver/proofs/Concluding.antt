@@ -1,5 +1,5 @@
 -- A talk with a record's process, and what becomes of both, is a step of the table.
-use Rattle.std.proofs.Common.{◌≡◌, ℕ, Bool, true, List, [], Some, Ok, Err, Option, Result, sym, refl, ap, ◌∙◌, subst}
+use Rattle.std.proofs.Common.{◌≡◌, ℕ, Bool, true, List, [], Ok, Err, Result, sym, refl, ap, ◌∙◌, subst}
 use Rattle.std.proofs.lemmas.List.{append-nil}
 use Rattle.host.specs.declared.fault.Fault.TheVariants.{Closed}
 use Rattle.host.specs.declared.fault.Snag.TheVariants.{Broken}
@@ -60,14 +60,16 @@ module _ {A : Type 0} (f : Wire → Got A) (right : A → Wire → Verdict) (wro
     with_fate (stays m o) v table' w' (put, same) =
         let e = sym (verdict_is x) ∙ v (wire (process w₁.world r.process) no_reply t.events) refl in
         subst (λ y. Concluded true answer table' y) (sym same)
-        (subst (λ y. Concluded true answer y w₁) (sym (put_is table table' (seated r m o) known put))
-        (stays_step f table r t no_reply right wrong (the_turn (λ k. true)) refl capacity c true refl refl (goes (the_turn (λ k. true)) refl refl) answer m o e,
-        ap (λ (z : Outcome). passes z.deeds) (settled f table r t no_reply right wrong (the_turn (λ k. true)) refl capacity c true refl refl (goes (the_turn (λ k. true)) refl refl) answer (stays m o) e) ∙ append-nil t.events))
+        (subst (λ y. Concluded true answer y w₁) (sym (put_is table table' (seated r m o) known put)) (
+          stays_step f table r t no_reply right wrong (the_turn (λ k. true)) refl capacity c true refl refl (goes (the_turn (λ k. true)) refl refl) answer m o e,
+          ap (λ (z : Outcome). passes z.deeds) (settled f table r t no_reply right wrong (the_turn (λ k. true)) refl capacity c true refl refl (goes (the_turn (λ k. true)) refl refl) answer (stays m o) e) ∙ append-nil t.events,
+        ))
     with_fate (leaves how) v table' w' (free, d, grown) =
         let e = sym (verdict_is x) ∙ v (wire (process w₁.world r.process) no_reply t.events) refl in
-        subst (λ y. Concluded true answer y w') (sym free)
-        (leaves_step f table r t no_reply right wrong (the_turn w'.world.startable) refl capacity c true refl refl (goes (the_turn w'.world.startable) refl refl) answer how e d grown refl,
-        ap (λ (z : Outcome). passes z.deeds) (settled f table r t no_reply right wrong (the_turn w'.world.startable) refl capacity c true refl refl (goes (the_turn w'.world.startable) refl refl) answer (leaves how) e) ∙ append-nil t.events)
+        subst (λ y. Concluded true answer y w') (sym free) (
+          leaves_step f table r t no_reply right wrong (the_turn w'.world.startable) refl capacity c true refl refl (goes (the_turn w'.world.startable) refl refl) answer how e d grown refl,
+          ap (λ (z : Outcome). passes z.deeds) (settled f table r t no_reply right wrong (the_turn w'.world.startable) refl capacity c true refl refl (goes (the_turn w'.world.startable) refl refl) answer (leaves how) e) ∙ append-nil t.events,
+        )
 
   pub concluded : (answer : Answer) (fate : Fate) → ((v : Wire) → v ≡ wire (process w₁.world r.process) no_reply t.events → judged right wrong x v ≡ verdict answer fate)
       → (table' : List Place) (w' : Sight) → Settles r fate table w₁ table' w' → (room : Bool) → room ≡ true → Concluded room answer table' w'

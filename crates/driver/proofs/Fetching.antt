@@ -1,5 +1,5 @@
 -- What was delayed is fetched.
-use Rattle.std.proofs.Common.{◌≡◌, ℕ, Bool, true, false, List, [], Some, None, Ok, Err, Option, Result, refl, sym, ap, ◌∙◌}
+use Rattle.std.proofs.Common.{◌≡◌, ℕ, Bool, true, List, [], Ok, Err, Result, refl}
 use Rattle.host.specs.declared.fault.LineFault.{LineFault}
 use Rattle.host.specs.Talk.{Areas, Wire, Sight, Talks}
 use Rattle.process.specs.declared.status.Status.{Status}
@@ -18,16 +18,10 @@ use Rattle.driver.specs.Fates.{Settles}
 use Rattle.driver.specs.Talks.{judged, idle_record}
 use Rattle.driver.proofs.Concluding.{concluded}
 use Rattle.driver.proofs.Idle.{idle_yes, idle_no}
-use Rattle.driver.proofs.Refused.{too_short, too_far, not_done}
+use Rattle.driver.proofs.Refused.{not_done}
 use Rattle.driver.proofs.Settling.{Known, known_by_key}
 
 module _ (capacity : ℕ) (table : List Place) (k : Key) (op : Operation) (path : List ℕ) where
-  pub fetch_short : (w : Sight) (a : Areas) (room : Bool) → room ≡ false → IsStep capacity (fetch k op path) room table w a (refused 1) table w a
-  fetch_short w a room short = too_short capacity (fetch k op path) table w a refl room short
-
-  pub fetch_far : (w : Sight) (a : Areas) (room : Bool) → room ≡ true → is_path path ≡ false → IsStep capacity (fetch k op path) room table w a (refused 2) table w a
-  fetch_far w a room there far = too_far capacity (fetch k op path) table w a room there far
-
   module _ (within : is_path path ≡ true) where
     pub fetch_not : (w : Sight) (a : Areas) (room : Bool) → room ≡ true → (n : ℕ) → ◌≡◌ {A = Result Record ℕ} (Err n) (idle_record (lookup table k)) → IsStep capacity (fetch k op path) room table w a (refused n) table w a
     fetch_not w a room there n e =

@@ -1,11 +1,11 @@
 -- A result is given up.
-use Rattle.std.proofs.Common.{◌≡◌, ℕ, Bool, true, false, List, [], ◌∷◌, Some, None, refl, sym, ap, ◌∙◌, subst}
+use Rattle.std.proofs.Common.{◌≡◌, ℕ, Bool, List, Some, None, refl, sym, ap, subst}
 use Rattle.host.specs.declared.host.How.TheVariants.{Kill}
 use Rattle.host.specs.Talk.{Areas, Sight}
 use Rattle.records.specs.declared.record.Record.{Record}
 use Rattle.records.specs.Places.{Place}
 use Rattle.records.specs.Records.{reading_by}
-use Rattle.rules.specs.Calls.{give_up, Turn}
+use Rattle.rules.specs.Calls.{give_up}
 use Rattle.rules.specs.Answers.{done, refused}
 use Rattle.rules.specs.Steps.{state, leaves, give_up_at}
 use Rattle.rules.specs.Promises.{IsStep}

@@ -5,9 +5,6 @@ use Rattle.records.specs.Records.{is_reading}
 use Rattle.rules.specs.Steps.{State, Outcome, refuse, unless_reading}
 use Rattle.driver.specs.Talks.{idle_record}
 
-abbrev pub Maybe : Type 0
-Maybe = Result Record ℕ
-
 pub idle_yes : (o : Option Record) (r : Record) → ◌≡◌ {A = Result Record ℕ} (Ok r) (idle_record o) → (o ≡ Some r) × (is_reading r ≡ false)
 idle_yes None r e = let z : ◌≡◌ {A = ℕ} 0 1 = cc in absurd (omega arith)
 idle_yes (Some s) r e = go (is_reading s) refl e

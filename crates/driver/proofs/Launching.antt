@@ -39,29 +39,20 @@ failed_so : (why : Refusal Protocol) → failure_of (heard protocol_number shake
 failed_so (Line f) = refl
 failed_so (Wrong n) = refl
 
+-- a start of a command that is a key's bytes
+by_key : (capacity : ℕ) (k : Key) (w w₁ : Sight) (x : Result ℕ NotStarted) (command : List ℕ) → command ≡ key_bytes k → Started capacity w.world command x w₁.world → Grows w.log (starting command x ∷ []) w₁.log
+    → Started capacity w.world (key_bytes k) x w₁.world × Grows w.log (starting (key_bytes k) x ∷ []) w₁.log
+by_key capacity k w w₁ x command is s g = subst (λ c. Started capacity w.world c x w₁.world × Grows w.log (starting c x ∷ []) w₁.log) is (s, g)
+
 module _ {capacity : ℕ} {k : Key} {w : Sight} {work : List ℕ} (command : List ℕ) (is : command ≡ key_bytes k) where
   met : {w₁ : Sight} {p : ℕ} {w₂ : Sight} {work' : List ℕ} (x : Result Agreement (Refusal Protocol)) → Started capacity w.world command (Ok p) w₁.world → Grows w.log (starting command (Ok p) ∷ []) w₁.log
       → Works greeting w₁ p work (heard protocol_number shaken_by x) w₂ work' → Meets capacity k w work p (heard protocol_number shaken_by x) w₂ work'
-  met {w₁} {p} x s g t =
-      record {
-        then = w₁;
-        starts = subst (λ c. Started capacity w.world c (Ok p) w₁.world) is s;
-        began = subst (λ c. Grows w.log (starting c (Ok p) ∷ []) w₁.log) is g;
-        greets = t;
-      }
+  met {w₁} {p} x s g t = let b = by_key capacity k w w₁ (Ok p) command is s g in record { then = w₁; starts = b.0; began = b.1; greets = t }
 
   module _ {table : List Place} (free : has_free table ≡ true) where
     pub not_started : {w' : Sight} (why : NotStarted) → Started capacity w.world command (Err why) w'.world → Grows w.log (starting command (Err why) ∷ []) w'.log
         → Launches capacity k table w work (Err (refused 10)) w' work
-    not_started {w'} why s g =
-        inr (inl (record {
-          free = free;
-          why = why;
-          starts = subst (λ c. Started capacity w.world c (Err why) w'.world) is s;
-          logs = subst (λ c. Grows w.log (starting c (Err why) ∷ []) w'.log) is g;
-          is = refl;
-          same_area = refl;
-        }))
+    not_started {w'} why s g = let b = by_key capacity k w w' (Err why) command is s g in inr (inl (record { free = free; why = why; starts = b.0; logs = b.1; is = refl; same_area = refl }))
 
     module _ {w₁ : Sight} {p : ℕ} (s : Started capacity w.world command (Ok p) w₁.world) (g : Grows w.log (starting command (Ok p) ∷ []) w₁.log) {w₂ : Sight} {work' : List ℕ} where
       pub ready : (a : Agreement) → Works greeting w₁ p work (Ok (Ok (shaken_by a))) w₂ work' → Launches capacity k table w work (Ok (newcomer_record k p a.version a.capabilities.mask)) w₂ work'

@@ -9,6 +9,5 @@ mod Lines
 mod Listing
 mod Reading
 mod Refused
-mod Rooms
 mod Saying
 mod Settling

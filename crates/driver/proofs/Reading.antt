@@ -1,5 +1,5 @@
 -- One read of a result.
-use Rattle.std.proofs.Common.{◌≡◌, ℕ, Bool, true, false, List, Some, None, Result, refl, sym, ap, ◌∙◌}
+use Rattle.std.proofs.Common.{◌≡◌, ℕ, Bool, true, List, Some, None, Result, refl, ap, ◌∙◌}
 use Rattle.host.specs.declared.fault.LineFault.{LineFault}
 use Rattle.host.specs.Talk.{Areas, Wire, Sight, Talks}
 use Rattle.client.specs.Results.{Piece, read_piece}
@@ -16,13 +16,10 @@ use Rattle.rules.proofs.Refusing.{read_unknown}
 use Rattle.driver.specs.Fates.{Settles}
 use Rattle.driver.specs.Talks.{judged}
 use Rattle.driver.proofs.Concluding.{concluded}
-use Rattle.driver.proofs.Refused.{too_short, not_done}
+use Rattle.driver.proofs.Refused.{not_done}
 use Rattle.driver.proofs.Settling.{known_reading}
 
 module _ (capacity p : ℕ) (table : List Place) where
-  pub read_short : (w : Sight) (a : Areas) (room : Bool) → room ≡ false → IsStep capacity (read p) room table w a (refused 1) table w a
-  read_short w a room short = too_short capacity (read p) table w a refl room short
-
   pub read_unknown_so : (w : Sight) (a : Areas) (room : Bool) → room ≡ true → reading_by table p ≡ None → IsStep capacity (read p) room table w a (refused 5) table w a
   read_unknown_so w a room there none = not_done capacity (read p) table w a room there refl 5 (λ u. read_unknown capacity u (state table w.world) p none)
 

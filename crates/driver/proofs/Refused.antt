@@ -1,17 +1,14 @@
 -- Calls that are refused before they reach a process are steps.
-use Rattle.std.proofs.Common.{◌≡◌, ℕ, Bool, true, false, not, ◌&&◌, List, [], Some, None, Err, Result, sym, refl, ap, ◌∙◌, subst}
-use Rattle.host.specs.declared.host.How.TheVariants.{Kill}
-use Rattle.host.specs.Acts.{ending, Grows, Ended}
+use Rattle.std.proofs.Common.{◌≡◌, ℕ, Bool, true, false, not, ◌&&◌, List, refl, ap, ◌∙◌}
 use Rattle.host.specs.Talk.{Areas, Sight}
-use Rattle.records.specs.declared.record.Record.{Record}
 use Rattle.records.specs.Places.{Place}
 use Rattle.rules.specs.Calls.{Call, is_within, needs_areas, Turn}
 use Rattle.rules.specs.Answers.{refused}
-use Rattle.rules.specs.Steps.{State, state, refuse, act, step}
+use Rattle.rules.specs.Steps.{state, refuse, act, step}
 use Rattle.rules.specs.Promises.{IsStep}
 use Rattle.rules.proofs.Refusing.{refuses, no_room, outside}
 use Rattle.rules.proofs.Making.{step_acts}
-use Rattle.driver.proofs.Concluding.{no_reply, free_turn}
+use Rattle.driver.proofs.Concluding.{free_turn}
 
 module _ (capacity : ℕ) (c : Call) (table : List Place) (w : Sight) (a : Areas) where
   -- 1
@@ -27,5 +24,9 @@ module _ (capacity : ℕ) (c : Call) (table : List Place) (w : Sight) (a : Areas
       room_there false r e = refl
 
   -- what the call itself refuses
-  pub not_done : (room : Bool) → room ≡ true → is_within c ≡ true → (n : ℕ) → ((u : Turn) → act capacity u (state table w.world) c ≡ refuse n (state table w.world)) → IsStep capacity c room table w a (refused n) table w a
-  not_done room there within n acts = refuses a (free_turn c room) n (step_acts capacity (free_turn c room) (state table w.world) there within ∙ acts (free_turn c room))
+  module _ (room : Bool) (there : room ≡ true) (within : is_within c ≡ true) (n : ℕ) (acts : (u : Turn) → act capacity u (state table w.world) c ≡ refuse n (state table w.world)) where
+    pub refused_so : step capacity (free_turn c room) (state table w.world) ≡ refuse n (state table w.world)
+    refused_so = step_acts capacity (free_turn c room) (state table w.world) there within ∙ acts (free_turn c room)
+
+    pub not_done : IsStep capacity c room table w a (refused n) table w a
+    not_done = refuses a (free_turn c room) n refused_so

@@ -1,7 +1,6 @@
 -- A record has a place where its key is known or a place is free.
-use Rattle.std.proofs.Common.{◌≡◌, ℕ, ◌<◌, true, false, cond, ◌||◌, List, [], ◌∷◌, length, Some, None, Ok, Err, Option, Result, sym, refl, ap, ◌∙◌, ◌⊎◌, inl, inr, subst, arith}
-use Rattle.std.specs.Prelude.{is_some, IsNone, find, ◌&&◌, ◌==◌}
-use Rattle.std.proofs.lemmas.Bool.{or_left, or_right}
+use Rattle.std.proofs.Common.{◌≡◌, ℕ, true, false, cond, ◌||◌, List, [], ◌∷◌, length, Some, None, Option, sym, refl, ap, inl, inr, subst, arith}
+use Rattle.std.specs.Prelude.{is_some, IsNone, ◌&&◌, ◌==◌}
 use Rattle.records.specs.declared.key.Key.{Key}
 use Rattle.records.specs.declared.record.Record.{Record}
 use Rattle.records.specs.Keys.{same_key}

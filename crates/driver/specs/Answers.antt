@@ -1,12 +1,10 @@
 -- What the code's answers are to a table, and the number of each refusal.
 use Rattle.std.specs.Prelude.{◌≡◌, ℕ, true, false, List, take, Some, None, Ok, Err, Option, Result, unwrap_or}
-use Rattle.host.specs.declared.fault.LineFault.{LineFault}
 use Rattle.process.specs.declared.status.Status.{Status}
 use Rattle.handshake.specs.declared.protocol.Protocol.{Protocol}
 use Rattle.handshake.specs.declared.protocol.Refusal.{Refusal}
 use Rattle.handshake.specs.declared.protocol.Refusal.TheVariants.{Line, Protocol as Wrong}
 use Rattle.handshake.specs.Handshakes.{protocol_number}
-use Rattle.client.specs.Listings.{Counts}
 use Rattle.records.specs.declared.record.Record.{Record}
 use Rattle.rules.specs.Answers.{Answer, passed, delayed, result, payload, finished, paths, full, done, failed, unfinished, unasked, fault, refused, answer_number}
 use Rattle.driver.specs.declared.misuse.Misuse.{Misuse}

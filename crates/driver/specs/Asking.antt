@@ -1,5 +1,5 @@
 -- What a caller says of content, as a table's call.
-use Rattle.std.specs.Prelude.{ℕ, List, Option}
+use Rattle.std.specs.Prelude.{ℕ, List}
 use Rattle.std.specs.Option.{option_map}
 use Rattle.records.specs.declared.context.Context.{Context}
 use Rattle.records.specs.declared.context.Delay.{Delay}

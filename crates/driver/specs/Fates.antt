@@ -1,5 +1,5 @@
 -- What becomes of a record and its process, in the table and at the host.
-use Rattle.std.specs.Prelude.{◌≡◌, ℕ, Bool, ◌||◌, [], ◌∷◌, List, Ok, is_some}
+use Rattle.std.specs.Prelude.{◌≡◌, Bool, ◌||◌, [], ◌∷◌, List, Ok, is_some}
 use Rattle.host.specs.Acts.{ending, Grows, Ended}
 use Rattle.host.specs.Talk.{Sight}
 use Rattle.records.specs.declared.record.Record.{Record}

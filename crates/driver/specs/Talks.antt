@@ -3,7 +3,7 @@ use Rattle.std.specs.Prelude.{◌≡◌, ℕ, ◌&&◌, cond, true, false, List,
 use Rattle.host.specs.declared.fault.LineFault.{LineFault}
 use Rattle.host.specs.declared.fault.NotStarted.{NotStarted}
 use Rattle.host.specs.declared.host.How.TheVariants.{Close}
-use Rattle.host.specs.Acts.{can_start, starting, ending, Grows, Started, Ended}
+use Rattle.host.specs.Acts.{starting, ending, Grows, Started, Ended}
 use Rattle.host.specs.Talk.{Wire, wire, Later, Got, Areas, Sight, Talks, Works}
 use Rattle.host.specs.Worlds.{process}
 use Rattle.handshake.specs.Handshakes.{Shaken}

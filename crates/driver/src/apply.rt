@@ -18,11 +18,9 @@ use crate::init;
 use crate::misuse::Misuse;
 use crate::result::FilterResult;
 use crate::state::State;
-use crate::talk::{DELAY, ask, greet};
+use crate::talk::{DELAY, ask, greet, have_room};
 use host::fault::LineFault;
 use host::host::{Host, How};
-use host::inner::MAX_LINE_LEN;
-use process::area::MAX_STATUS_LEN;
 use process::capabilities::Capabilities;
 use process::status::{Status, Word};
 use records::context::{Context, Delay};
@@ -64,16 +62,16 @@ impl Numbered for Error {
 
 /// What an exchange's status comes to: a result, or the status, and what becomes of the record.
 pub(crate) fn after_exchange(
-    record: &Record,
+    entry: &Record,
     operation: Operation,
     status: Status,
 ) -> (Result<FilterResult, Status>, Fate)
-    ensures { verdict (result_or_status result.0) (fate_of result.1) ≡ after_exchange record.now.process operation record.now.capabilities.mask never_delayed status }
+    ensures { verdict (result_or_status result.0) (fate_of result.1) ≡ after_exchange entry.now.process operation entry.now.capabilities.mask never_delayed status }
 {
-    let able = record.capabilities;
+    let able = entry.capabilities;
     match status {
         Status::Named(Word::Success, _) => (
-            Ok(FilterResult::of(record.process)),
+            Ok(FilterResult::of(entry.process)),
             Fate::Stays(able, Some(operation)),
         ),
         Status::Named(Word::Abort, _) => (
@@ -87,12 +85,12 @@ pub(crate) fn after_exchange(
 
 /// The same of an apply, whose process may have been allowed to answer later.
 fn after_apply(
-    record: &Record,
+    entry: &Record,
     operation: Operation,
     allowed: bool,
     status: Status,
 ) -> (Result<Applied, Error>, Fate)
-    ensures { verdict (applied result.0) (fate_of result.1) ≡ after_exchange record.now.process operation record.now.capabilities.mask (delayed_if allowed record.now.capabilities.mask) status }
+    ensures { verdict (applied result.0) (fate_of result.1) ≡ after_exchange entry.now.process operation entry.now.capabilities.mask (delayed_if allowed entry.now.capabilities.mask) status }
 {
     if let Status::Named(Word::Delayed, _) = status {
         let answer = if allowed {
@@ -100,9 +98,9 @@ fn after_apply(
         } else {
             Err(Error::DelayNotAllowed)
         };
-        return (answer, Fate::Stays(record.capabilities, None));
+        return (answer, Fate::Stays(entry.capabilities, None));
     }
-    let (answer, fate) = after_exchange(record, operation, status);
+    let (answer, fate) = after_exchange(entry, operation, status);
     let answer = match answer {
         Ok(result) => Ok(Applied::Immediate(result)),
         Err(status) => Err(Error::ProcessStatus(status)),
@@ -123,7 +121,7 @@ fn give<H: Host>(
     host: &mut H,
     work: &mut [u8],
     status: &mut [u8],
-    record: &Record,
+    entry: &Record,
     content: &[u8],
     operation: Operation,
     delay: Delay,
@@ -131,16 +129,16 @@ fn give<H: Host>(
 ) -> (Result<Applied, Error>, Fate)
     requires room { have_room work.old status.old ≡ true }
     requires within { is_context context.now ≡ true }
-    ensures { Gives operation (asked_of context.now delay content.now) record.now (sight (H.log host.old) (H.world host.old)) (areas work.old status.old) (applied result.0) (fate_of result.1) (sight (H.log host.new) (H.world host.new)) (areas work.new status.new) }
+    ensures { Gives operation (asked_of context.now delay content.now) entry.now (sight (H.log host.old) (H.world host.old)) (areas work.old status.old) (applied result.0) (fate_of result.1) (sight (H.log host.new) (H.world host.new)) (areas work.new status.new) }
 {
-    let able = record.capabilities;
+    let able = entry.capabilities;
     if !able.contains(operation.place()) {
-        return (Ok(Applied::Passed), Fate::Stays(able, record.reading));
+        return (Ok(Applied::Passed), Fate::Stays(able, entry.reading));
     }
     let allowed = may_answer_later(delay, able);
     match ask(
         host,
-        record.process,
+        entry.process,
         work,
         status,
         operation,
@@ -148,8 +146,8 @@ fn give<H: Host>(
         allowed,
         content,
     ) {
-        Ok(status) => after_apply(record, operation, allowed, status),
-        Err(fault) => (Err(Error::ProcessInvoke(fault)), after_fault(record, fault)),
+        Ok(status) => after_apply(entry, operation, allowed, status),
+        Err(fault) => (Err(Error::ProcessInvoke(fault)), after_fault(entry, fault)),
     }
 }
 
@@ -193,7 +191,7 @@ impl State {
         host: &mut H,
         work: &mut [u8],
         status: &mut [u8],
-        record: &Record,
+        entry: &Record,
         content: &[u8],
         operation: Operation,
         delay: Delay,
@@ -201,13 +199,13 @@ impl State {
     ) -> Result<Applied, Error>
         requires room { have_room work.old status.old ≡ true }
         requires within { is_context context.now ≡ true }
-        requires place { has_place self.old.records.places record.now.key ≡ true }
-        ensures { AppliesTo operation (asked_of context.now delay content.now) record.now self.old.records.places (sight (H.log host.old) (H.world host.old)) (areas work.old status.old) (applied result) self.new.records.places (sight (H.log host.new) (H.world host.new)) (areas work.new status.new) }
+        requires place { has_place self.old.records.places entry.now.key ≡ true }
+        ensures { AppliesTo operation (asked_of context.now delay content.now) entry.now self.old.records.places (sight (H.log host.old) (H.world host.old)) (areas work.old status.old) (applied result) self.new.records.places (sight (H.log host.new) (H.world host.new)) (areas work.new status.new) }
     {
         let (answer, fate) = give(
-            host, work, status, record, content, operation, delay, context,
+            host, work, status, entry, content, operation, delay, context,
         );
-        self.settle(host, record, fate);
+        self.settle(host, entry, fate);
         answer
     }
 
@@ -225,7 +223,7 @@ impl State {
     ) -> Result<Applied, Error>
         ensures { IsStep H.capacity (apply key.now operation (asked_of context.now delay content.now)) (have_room work.old status.old) self.old.records.places (sight (H.log host.old) (H.world host.old)) (areas work.old status.old) (applied result) self.new.records.places (sight (H.log host.new) (H.world host.new)) (areas work.new status.new) }
     {
-        if work.len() < MAX_LINE_LEN || status.len() < MAX_STATUS_LEN {
+        if !have_room(work, status) {
             return Err(Error::Misuse(Misuse::AreaTooShort));
         }
         if !context.is_within_limits() {

@@ -19,14 +19,12 @@ use crate::list::Paths;
 use crate::misuse::Misuse;
 use crate::result::FilterResult;
 use crate::state::State;
-use crate::talk::{ask_again, list as list_paths};
+use crate::talk::{ask_again, have_room, list as list_paths};
 use crate::{fetch, list};
 use client::listing::{ListFault, Listed};
 use client::paths::PathRow;
 use host::fault::LineFault;
 use host::host::{Host, How};
-use host::inner::MAX_LINE_LEN;
-use process::area::MAX_STATUS_LEN;
 use process::status::{Status, Word};
 use records::context::is_path;
 use records::key::Key;
@@ -49,10 +47,10 @@ fn found(listed: Listed, full: bool) -> Result<Paths, list::Error>
 
 /// What a listing comes to: the answer, and what becomes of the record.
 fn after_listing(
-    record: &Record,
+    entry: &Record,
     told: Result<Listed, ListFault>,
 ) -> (Result<Paths, list::Error>, Fate)
-    ensures { verdict (paths_listed result.0) (fate_of result.1) ≡ list_verdict record.now.capabilities.mask told }
+    ensures { verdict (paths_listed result.0) (fate_of result.1) ≡ list_verdict entry.now.capabilities.mask told }
 {
     let (listed, full) = match told {
         Ok(listed) => (listed, false),
@@ -60,11 +58,11 @@ fn after_listing(
         Err(ListFault::Line(fault)) => {
             return (
                 Err(list::Error::ProcessInvoke(fault)),
-                after_fault(record, fault),
+                after_fault(entry, fault),
             );
         }
     };
-    let keeps = Fate::Stays(record.capabilities, None);
+    let keeps = Fate::Stays(entry.capabilities, None);
     match listed.status {
         Status::Named(Word::Success, _) => (found(listed, full), keeps),
         Status::Named(Word::Abort, _) | Status::Named(Word::Error, _) => {
@@ -79,20 +77,20 @@ fn after_listing(
 
 /// What an exchange for what was delayed comes to: the answer, and what becomes of the record.
 fn after_fetch(
-    record: &Record,
+    entry: &Record,
     operation: Operation,
     said: Result<Status, LineFault>,
 ) -> (Result<FilterResult, fetch::Error>, Fate)
-    ensures { (v : Wire) → verdict (fetched result.0) (fate_of result.1) ≡ judged (λ s _. after_exchange record.now.process operation record.now.capabilities.mask never_delayed s) (after_fault record.now.capabilities.mask) said v }
+    ensures { (v : Wire) → verdict (fetched result.0) (fate_of result.1) ≡ judged (λ s _. after_exchange entry.now.process operation entry.now.capabilities.mask never_delayed s) (after_fault entry.now.capabilities.mask) said v }
 {
     let status = match said {
         Ok(status) => status,
         Err(fault) => return (
             Err(fetch::Error::ProcessInvoke(fault)),
-            after_fault(record, fault),
+            after_fault(entry, fault),
         ),
     };
-    let (answer, fate) = after_exchange(record, operation, status);
+    let (answer, fate) = after_exchange(entry, operation, status);
     let answer = match answer {
         Ok(result) => Ok(result),
         Err(status) => Err(fetch::Error::ProcessStatus(status)),
@@ -124,7 +122,7 @@ impl State {
     ) -> Result<Paths, list::Error>
         ensures { ListsStep H.capacity (list key.now (length rows.old) (length text.old)) (have_room work.old status.old) self.old.records.places (sight (H.log host.old) (H.world host.old)) (areas work.old status.old) rows.old text.old (paths_listed result) self.new.records.places (sight (H.log host.new) (H.world host.new)) (areas work.new status.new) rows.new text.new }
     {
-        if work.len() < MAX_LINE_LEN || status.len() < MAX_STATUS_LEN {
+        if !have_room(work, status) {
             return Err(list::Error::Misuse(Misuse::AreaTooShort));
         }
         let record = match self.idle(key) {
@@ -149,7 +147,7 @@ impl State {
     ) -> Result<FilterResult, fetch::Error>
         ensures { IsStep H.capacity (fetch key.now operation path.now) (have_room work.old status.old) self.old.records.places (sight (H.log host.old) (H.world host.old)) (areas work.old status.old) (fetched result) self.new.records.places (sight (H.log host.new) (H.world host.new)) (areas work.new status.new) }
     {
-        if work.len() < MAX_LINE_LEN || status.len() < MAX_STATUS_LEN {
+        if !have_room(work, status) {
             return Err(fetch::Error::Misuse(Misuse::AreaTooShort));
         }
         if !is_path(path) {

@@ -18,15 +18,15 @@ pub(crate) enum Fate {
 
 /// What a line fault comes to where content is asked for or paths are listed.
 // The Rust's `handle_io_err`.
-pub(crate) fn after_fault(record: &Record, fault: LineFault) -> Fate
-    ensures { fate_of result ≡ after_fault record.now.capabilities.mask fault }
+pub(crate) fn after_fault(entry: &Record, fault: LineFault) -> Fate
+    ensures { fate_of result ≡ after_fault entry.now.capabilities.mask fault }
 {
     match fault {
         LineFault::Host(Fault::Closed) | LineFault::Host(Fault::Broken) | LineFault::Marker => {
             Fate::Leaves(How::Close)
         }
         LineFault::Host(Fault::Other) | LineFault::Packet(_) | LineFault::Text(_) => {
-            Fate::Stays(record.capabilities, None)
+            Fate::Stays(entry.capabilities, None)
         }
     }
 }

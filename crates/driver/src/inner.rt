@@ -16,12 +16,10 @@ use crate::misuse::Misuse;
 use crate::read::Unread;
 use crate::result::FilterResult;
 use crate::state::State;
-use crate::talk::read as read_piece;
+use crate::talk::{have_room, read as read_piece};
 use client::result::Output;
 use host::fault::LineFault;
 use host::host::{Host, How};
-use host::inner::MAX_LINE_LEN;
-use process::area::MAX_STATUS_LEN;
 use process::status::{Status, Word};
 use records::operation::Operation;
 use records::record::Record;
@@ -42,15 +40,15 @@ pub fn number_of(token: FilterResult) -> usize
 
 /// What a read comes to: the answer, and what becomes of the record.
 fn after_read(
-    record: &Record,
+    entry: &Record,
     operation: Operation,
     said: Result<Output, LineFault>,
 ) -> (Result<Option<usize>, Unread>, Fate)
     requires { IfOk said (λ o. output_length o ≤ 65516) }
     ensures bound { payload_length result.0 ≤ 65516 }
-    ensures judged { (area : List ℕ) (v : Wire) → verdict (piece_read area result.0) (fate_of result.1) ≡ judged (λ x _. after_piece operation record.now.capabilities.mask x) (result_lost record.now.capabilities.mask) (told (piece_of area) (λ f. f) said) v }
+    ensures judged { (area : List ℕ) (v : Wire) → verdict (piece_read area result.0) (fate_of result.1) ≡ judged (λ x _. after_piece operation entry.now.capabilities.mask x) (result_lost entry.now.capabilities.mask) (told (piece_of area) (λ f. f) said) v }
 {
-    let able = record.capabilities;
+    let able = entry.capabilities;
     match said {
         Ok(Output::Payload(n)) => (Ok(Some(n)), Fate::Stays(able, Some(operation))),
         Ok(Output::Final(status)) if status.is_success() => (Ok(None), Fate::Stays(able, None)),
@@ -76,7 +74,7 @@ pub fn read<H: Host>(
     ensures bound { payload_length result ≤ length work.new }
     ensures step { IsStep H.capacity (read process) (have_room work.old status.old) state.old.records.places (sight (H.log host.old) (H.world host.old)) (areas work.old status.old) (piece_read work.new result) state.new.records.places (sight (H.log host.new) (H.world host.new)) (areas work.new status.new) }
 {
-    if work.len() < MAX_LINE_LEN || status.len() < MAX_STATUS_LEN {
+    if !have_room(work, status) {
         return Err(Unread::Misuse(Misuse::AreaTooShort));
     }
     let Some(record) = state.records.by_process(process) else {

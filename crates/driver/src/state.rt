@@ -32,16 +32,16 @@ impl State {
     }
 
     /// A record and its process meet their fate.
-    pub(crate) fn settle<H: Host>(&mut self, host: &mut H, record: &Record, fate: Fate)
-        requires { has_place self.old.records.places record.now.key ≡ true }
-        ensures { Settles record.now (fate_of fate) self.old.records.places (sight (H.log host.old) (H.world host.old)) self.new.records.places (sight (H.log host.new) (H.world host.new)) }
+    pub(crate) fn settle<H: Host>(&mut self, host: &mut H, entry: &Record, fate: Fate)
+        requires { has_place self.old.records.places entry.now.key ≡ true }
+        ensures { Settles entry.now (fate_of fate) self.old.records.places (sight (H.log host.old) (H.world host.old)) self.new.records.places (sight (H.log host.new) (H.world host.new)) }
     {
         match fate {
             Fate::Stays(capabilities, reading) => {
                 let stays = Record {
                     capabilities,
                     reading,
-                    ..*record
+                    ..*entry
                 };
                 match self.records.insert(stays) {
                     Ok(records) => self.records = records,
@@ -49,8 +49,8 @@ impl State {
                 }
             }
             Fate::Leaves(how) => {
-                self.records = self.records.remove(&record.key);
-                host.end(record.process, how);
+                self.records = self.records.remove(&entry.key);
+                host.end(entry.process, how);
             }
         }
     }

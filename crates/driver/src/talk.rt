@@ -28,8 +28,9 @@ use handshake::inner::handshake;
 use handshake::protocol::{Protocol, Refusal};
 use host::fault::LineFault;
 use host::host::Host;
+use host::inner::MAX_LINE_LEN;
 use host::peer::Peer;
-use process::area::StatusArea;
+use process::area::{MAX_STATUS_LEN, StatusArea};
 use process::status::Status;
 use records::context::Context;
 use records::id::ObjectId;
@@ -39,6 +40,13 @@ use slices::rows::Rows;
 
 /// The place of `delay` among the names that a table desires.
 pub(crate) const DELAY: usize = 2;
+
+/// Whether a work area and a status area are long enough for what may be laid there.
+pub(crate) fn have_room(work: &[u8], status: &[u8]) -> bool
+    ensures { result ≡ have_room work.now status.now }
+{
+    work.len() >= MAX_LINE_LEN && status.len() >= MAX_STATUS_LEN
+}
 
 /// Hands are shaken with a process that was just started.
 pub(crate) fn greet<H: Host>(

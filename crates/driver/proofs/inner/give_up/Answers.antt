@@ -1,4 +1,4 @@
-use Rattle.std.proofs.Common.{refl, rules}
+use Rattle.std.proofs.Common.{rules}
 use Rattle.driver.proofs.Giving.{gives_up_unknown, gave_up}
 use Rattle.driver.proofs.Settling.{known_place, known_reading}
 use Rattle.driver.proofs.inner.give_up.Goals as goal
