@@ -1,18 +1,18 @@
 -- What a call's talk comes to, in packets: what was heard and said since its start, whole unless a fault cut it.
-use Rattle.std.proofs.Common.{◌≡◌, ℕ, zero, suc, ◌+◌, ◌≤◌, true, ◌||◌, List, [], ◌∷◌, ◌++◌, map, length, Some, None, Ok, Err, codes, Result, ◌⊎◌, inl, inr, sym, refl, ap, ◌∙◌, subst, arith, bytes_eq}
+use Rattle.std.proofs.Common.{◌≡◌, ℕ, zero, suc, ◌+◌, ◌≤◌, Bool, true, false, cond, ◌||◌, List, [], ◌∷◌, ◌++◌, map, length, Some, None, Ok, Err, codes, Result, ◌⊎◌, inl, inr, sym, refl, ap, ◌∙◌, subst, arith, bytes_eq}
 use Rattle.std.proofs.lemmas.List.{append_assoc}
-use Rattle.std.proofs.lemmas.Bool.{or_left, or_right}
+use Rattle.std.proofs.lemmas.Bool.{or_left, or_right, and_parts}
 use Rattle.std.proofs.lemmas.Slice.Eq.{bytes_eq-Decides}
 use Rattle.slices.proofs.Searches.{first_is}
 use Rattle.slices.specs.Names.{name_bytes}
 use Rattle.packetline.specs.Packets.{Pkt, flush, delimiter, response_end, line, Decoded, decode, packets, flushes_of}
 use Rattle.packetline.specs.Lines.{kind_of}
-use Rattle.packetline.specs.Text.{trim_end}
+use Rattle.packetline.specs.Text.{trim_end, utf8}
 use Rattle.host.specs.declared.fault.LineFault.{LineFault}
 use Rattle.host.specs.Talk.{Event, bytes_sent, bytes_given, Wire, Got, got, lost}
 use Rattle.process.specs.declared.status.Status.{Status}
 use Rattle.process.specs.declared.status.Status.TheVariants.{Previous, Unset, Named}
-use Rattle.process.specs.Given.{ReadsAs}
+use Rattle.process.specs.Given.{ReadsAs, all_text}
 use Rattle.process.specs.Masks.{holds, place_of}
 use Rattle.process.specs.Statuses.{status_in, told_by, after_lines, first, StatusLines}
 use Rattle.process.proofs.Passes.{Since, Until, Passed, decode_empty, decode_append, packets_append}
@@ -31,7 +31,7 @@ use Rattle.records.specs.declared.operation.Operation.TheVariants.{Clean, Smudge
 use Rattle.records.specs.Operations.{operation_name, operation_place}
 use Rattle.rules.specs.Names.{clean_name, desired_names}
 use Rattle.rules.specs.Steps.{exchange, greeting}
-use Rattle.rules.specs.Stories.{names_it, names_before, behind_flushes, status_from, is_abort}
+use Rattle.rules.specs.Stories.{cut, on_text, telling, status_told, names_it, names_before, behind_flushes, status_from, is_abort}
 use Rattle.rules.proofs.Kept.{Always, weaken}
 
 -- so far these packets were heard and said, each whole
@@ -92,12 +92,21 @@ first_alike Previous = refl
 first_alike Unset = refl
 first_alike (Named w n) = refl
 
-lines_status : (s : Status) (ls : List (List ℕ)) → status_from s (map line ls ++ flush ∷ []) ≡ Some (after_lines s (map trim_end ls))
-lines_status s [] = refl
-lines_status s (l ∷ ls) = lines_status (told_by s (status_in (kind_of (trim_end l)))) ls
+-- a line of text tells what it says; another tells nothing
+pub line_tells : (s : Status) (l : List ℕ) (ps : List Pkt) → utf8 l ≡ true → telling s (line l ∷ ps) ≡ telling (told_by s (status_in (kind_of (trim_end l)))) ps
+line_tells s l ps e = ap (λ b. on_text (λ text. telling (told_by s (status_in (kind_of text))) ps) (cond b (Ok (trim_end l)) (Err 22))) e
+
+pub no_text_tells : (s : Status) (l : List ℕ) (ps : List Pkt) → utf8 l ≡ false → telling s (line l ∷ ps) ≡ cut
+no_text_tells s l ps e = ap (λ b. on_text (λ text. telling (told_by s (status_in (kind_of text))) ps) (cond b (Ok (trim_end l)) (Err 22))) e
+
+lines_status : (s : Status) (ls : List (List ℕ)) → all_text ls ≡ true → status_from s (map line ls ++ flush ∷ []) ≡ Some (after_lines s (map trim_end ls))
+lines_status s [] t = refl
+lines_status s (l ∷ ls) t =
+    let h = and_parts (utf8 l) (all_text ls) t in
+    ap status_told (line_tells s l (map line ls ++ flush ∷ []) h.0) ∙ lines_status (told_by s (status_in (kind_of (trim_end l)))) ls h.1
 
 tells_status : (ps : List Pkt) (s : Status) → StatusLines ps s → status_from Previous ps ≡ Some s
-tells_status ps s h = ap (status_from Previous) h.are ∙ lines_status Previous h.lines ∙ ap (λ x. Some x) (sym h.value)
+tells_status ps s h = ap (status_from Previous) h.are ∙ lines_status Previous h.lines h.texts ∙ ap (λ x. Some x) (sym h.value)
 
 -- no status where its flush did not come
 pub no_status : (n : ℕ) (s : Status) (ps : List Pkt) → flushes_of ps ≤ n → status_from s (behind_flushes n ps) ≡ None
@@ -105,7 +114,11 @@ no_status zero s [] h = refl
 no_status zero s (flush ∷ ps) h = absurd (omega arith)
 no_status zero s (delimiter ∷ ps) h = refl
 no_status zero s (response_end ∷ ps) h = refl
-no_status zero s (line l ∷ ps) h = no_status zero (told_by s (status_in (kind_of (trim_end l)))) ps (omega arith)
+no_status zero s (line l ∷ ps) h = go (utf8 l) refl (no_status zero (told_by s (status_in (kind_of (trim_end l)))) ps (omega arith))
+  where
+    go : (b : Bool) → utf8 l ≡ b → status_from (told_by s (status_in (kind_of (trim_end l)))) ps ≡ None → status_from s (line l ∷ ps) ≡ None
+    go true e none = ap status_told (line_tells s l ps e) ∙ none
+    go false e none = ap status_told (no_text_tells s l ps e)
 no_status (suc n) s [] h = refl
 no_status (suc n) s (flush ∷ ps) h = no_status n s ps (omega arith)
 no_status (suc n) s (delimiter ∷ ps) h = no_status (suc n) s ps (omega arith)

@@ -22,7 +22,7 @@ use Rattle.rules.specs.Steps.{exchange}
 use Rattle.rules.specs.Stories.{Telling, told, marked, cut, telling, behind_flushes}
 use Rattle.rules.specs.Key.{begins_with_payload}
 use Rattle.rules.proofs.Kept.{Always, then_always, weaken, join}
-use Rattle.rules.proofs.Talks.{Sofar, Heard, Cutoff, passed_always}
+use Rattle.rules.proofs.Talks.{line_tells, no_text_tells, Sofar, Heard, Cutoff, passed_always}
 
 -- the packets that were given
 abbrev pub Given : List Event → List Pkt → Type 0
@@ -111,13 +111,13 @@ module _ (gs ss : List Pkt) where
   abbrev NextText : Option (List ℕ) → Wire → Type 0
   NextText o u = (p : Pkt) × Sofar (gs ++ p ∷ []) ss u.events × Says p o
 
-  texted_hears : (l : List ℕ) (v : Wire) → Sofar (gs ++ line l ∷ []) ss v.events → (b : Bool) (n : ℕ) → Always NextText (TextBreaks gs) (texted (cond b (Ok (trim_end l)) (Err n)) v)
-  texted_hears l v s true n = (line l, s, λ t rest. refl)
-  texted_hears l v s false n = record { after = line l ∷ []; given = given_by (gs ++ line l ∷ []) ss v.events s; leaves = λ t. refl }
+  texted_hears : (l : List ℕ) (v : Wire) → Sofar (gs ++ line l ∷ []) ss v.events → (b : Bool) → utf8 l ≡ b → (n : ℕ) → Always NextText (TextBreaks gs) (texted (cond b (Ok (trim_end l)) (Err n)) v)
+  texted_hears l v s true e n = (line l, s, λ t rest. line_tells t l rest e)
+  texted_hears l v s false e n = record { after = line l ∷ []; given = given_by (gs ++ line l ∷ []) ss v.events s; leaves = λ t. no_text_tells t l [] e }
 
   text_in_hears : (o : Option (List ℕ)) (v : Wire) → NextContent o v → Always NextText (TextBreaks gs) (text_in o v)
   text_in_hears None v s = (flush, s, λ t rest. refl)
-  text_in_hears (Some l) v s = texted_hears l v s (utf8 l) 22
+  text_in_hears (Some l) v s = texted_hears l v s (utf8 l) refl 22
 
   text_hears : (v : Wire) → Sofar gs ss v.events → Always NextText (TextBreaks gs) (read_text v)
   text_hears v s =

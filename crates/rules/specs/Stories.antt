@@ -1,10 +1,10 @@
 -- What has passed with one process since it was started: its calls, the latest first, each with the events of its talk and with its answer. What the
 -- rules speak of is read off these alone: nothing here looks into a table.
-use Rattle.std.specs.Prelude.{ℕ, zero, suc, ◌+◌, Bool, true, false, cond, not, ◌&&◌, ◌||◌, List, [], ◌∷◌, ◌++◌, Some, None, codes, Option, is_some}
+use Rattle.std.specs.Prelude.{ℕ, zero, suc, ◌+◌, Bool, true, false, cond, not, ◌&&◌, ◌||◌, List, [], ◌∷◌, ◌++◌, Some, None, Ok, Err, codes, Option, Result, is_some}
 use Rattle.std.specs.Str.{bytes_eq}
 use Rattle.packetline.specs.Packets.{Pkt, flush, delimiter, response_end, line, packet, decode}
 use Rattle.packetline.specs.Lines.{kind_of}
-use Rattle.packetline.specs.Text.{trim_end}
+use Rattle.packetline.specs.Text.{trim_end, text_of}
 use Rattle.host.specs.Talk.{Event, took, refused as not_taken, gave, noted, bytes_sent, bytes_given}
 use Rattle.process.specs.declared.status.Word.TheVariants.{Abort}
 use Rattle.process.specs.declared.status.Status.{Status}
@@ -151,10 +151,15 @@ behind_flushes (suc k) (delimiter ∷ ps) = behind_flushes (suc k) ps
 behind_flushes (suc k) (response_end ∷ ps) = behind_flushes (suc k) ps
 behind_flushes (suc k) (line payload ∷ ps) = behind_flushes (suc k) ps
 
--- what packets tell up to a flush: a status; none, since a marker came where a line is wanted; or none, since they are cut off before
+-- what packets tell up to a flush: a status; none, since a marker came where a line is wanted; or none, since they are cut off before, by a line that is no
+-- text too
 pub data Telling : Type 0 where
   told : Status → Telling
   marked cut : Telling
+
+abbrev pub on_text : (List ℕ → Telling) → Result (List ℕ) ℕ → Telling
+on_text f (Ok text) = f text
+on_text f (Err n) = cut
 
 -- the same after lines that told a status
 abbrev pub telling : Status → List Pkt → Telling
@@ -162,7 +167,7 @@ telling s [] = cut
 telling s (flush ∷ ps) = told s
 telling s (delimiter ∷ ps) = marked
 telling s (response_end ∷ ps) = marked
-telling s (line payload ∷ ps) = telling (told_by s (status_in (kind_of (trim_end payload)))) ps
+telling s (line payload ∷ ps) = on_text (λ text. telling (told_by s (status_in (kind_of text))) ps) (text_of payload)
 
 abbrev pub status_told : Telling → Option Status
 status_told (told s) = Some s
