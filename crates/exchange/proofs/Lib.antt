@@ -1,6 +1,5 @@
 mod Opens
 mod Running
-mod Characters
 mod Keying
 mod Reading
 mod Runners

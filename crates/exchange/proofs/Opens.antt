@@ -1,11 +1,11 @@
 -- The results that a table's records are reading, collected place by place.
-use Rattle.std.proofs.Common.{◌≡◌, ℕ, zero, suc, ◌+◌, ◌<◌, ◌≤◌, Bool, true, false, cond, List, [], ◌∷◌, ◌++◌, map, length, take, Some, None, Option, refl, sym, ap, ◌∙◌, subst, arith}
+use Rattle.std.proofs.Common.{◌≡◌, ℕ, ◌+◌, ◌<◌, ◌≤◌, true, false, cond, List, [], ◌∷◌, ◌++◌, map, length, take, Some, None, Option, refl, sym, ap, ◌∙◌, arith}
 use Rattle.std.specs.Prelude.{slice_index_or, slice_set, option_to_list, filter}
 use Rattle.std.proofs.lemmas.List.{append-nil, take_all, take_more_set, length-set, map-append}
 use Rattle.std.proofs.lemmas.List.Elements.{filter-append}
 use Rattle.records.specs.declared.record.Record.{Record}
 use Rattle.records.specs.Places.{Place}
-use Rattle.records.specs.Records.{held, is_reading}
+use Rattle.records.specs.Records.{is_reading}
 use Rattle.driver.proofs.Closings.{first_held, next_held}
 use Rattle.exchange.specs.Opens.{read_from}
 

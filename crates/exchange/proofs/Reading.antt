@@ -1,21 +1,18 @@
 -- Packets that are read from the front of bytes, one by one.
-use Rattle.std.proofs.Common.{◌≡◌, ℕ, true, false, List, [], ◌∷◌, None, Some, Option, Bor, ◌⊎◌, ⊎_elim, sym, refl, ap, ◌∙◌}
-use Rattle.std.specs.Option.{option_map, option_or}
+use Rattle.std.proofs.Common.{◌≡◌, ℕ, true, false, List, [], ◌∷◌, None, Some, Ok, Err, Bor, ◌⊎◌, ⊎_elim, sym, refl, ap, ◌∙◌}
 use Rattle.packetline.specs.declared.packet.Packet.{Packet}
 use Rattle.packetline.specs.declared.packet.Packet.TheVariants.{Data, Flush, Delimiter, ResponseEnd}
 use Rattle.packetline.specs.Lines.{kind_of}
 use Rattle.packetline.specs.Packets.{Pkt, flush, delimiter, response_end, line, Front, whole, bad, short, front, Decoded, and_more, decode}
 use Rattle.packetline.specs.Reads.{pkt, Next}
-use Rattle.packetline.specs.Text.{trim_end}
+use Rattle.packetline.specs.Text.{text_of}
 use Rattle.packetline.proofs.Decoding.{decode_more}
-use Rattle.process.specs.declared.status.Word.{Word}
 use Rattle.process.specs.declared.status.Status.{Status}
-use Rattle.process.specs.declared.status.Status.TheVariants.{Previous, Unset, Named}
-use Rattle.process.specs.Statuses.{status_in, told_by, word_of}
-use Rattle.rules.specs.Stories.{telling, behind_flushes}
+use Rattle.process.specs.declared.status.Status.TheVariants.{Previous}
+use Rattle.process.specs.Statuses.{status_in, told_by}
+use Rattle.rules.specs.Stories.{told, marked, cut, on_text, telling, behind_flushes}
 use Rattle.rules.specs.Key.{begins_with_payload}
-use Rattle.exchange.specs.declared.key.Telling.TheVariants.{Told, Marked, Cut}
-use Rattle.exchange.specs.Watching.{packets_in, word_in, in_words}
+use Rattle.exchange.specs.Watching.{packets_in}
 
 none_read : (f : Front) (bytes : List ℕ) → ((p : Pkt) (taken rest : List ℕ) → f ≡ whole p taken rest → ⊥) → (and_more f bytes decode).packets ≡ []
 none_read (whole p taken rest) bytes h = absurd (h p taken rest refl)
@@ -76,40 +73,31 @@ behind_two (line payload ∷ ps) = behind_two ps
 
 -- What is told
 
--- a line's word wins over those before it
-said_by : (s : Status) (o : Option (List ℕ)) → word_in (told_by s o) ≡ option_or (option_map word_of o) (word_in s)
-said_by s (Some name) = refl
-said_by Previous None = refl
-said_by Unset None = refl
-said_by (Named w n) None = refl
+-- so far the packets told a status
+abbrev pub Leads : List ℕ → Status → List ℕ → Type 0
+Leads bytes s left = telling Previous (packets_in bytes) ≡ telling s (packets_in left)
 
--- so far the packets told a status of this word
-pub record Leads (bytes : List ℕ) (said : Option Word) (left : List ℕ) : Type 0 where
-  status : Status
-  says : word_in status ≡ said
-  goes_on : telling Previous (packets_in bytes) ≡ telling status (packets_in left)
+pub leads_first : (bytes left : List ℕ) → left ≡ bytes → Leads bytes Previous left
+leads_first bytes left e = ap (λ xs. telling Previous (packets_in xs)) (sym e)
 
-pub leads_first : (bytes left : List ℕ) → left ≡ bytes → Leads bytes None left
-leads_first bytes left e = record { status = Previous; says = refl; goes_on = ap (λ xs. telling Previous (packets_in xs)) (sym e) }
-
-module _ (bytes : List ℕ) (said : Option Word) (left : List ℕ) (so_far : Leads bytes said left) (rest : List ℕ) where
-  pub leads_line : (x : Packet (Bor (List ℕ))) (payload : Bor (List ℕ)) (said' : Option Word) → Next left (Some x) rest → x ≡ Data payload
-      → said' ≡ option_or (option_map word_of (status_in (kind_of (trim_end payload.now)))) said → Leads bytes said' rest
-  leads_line x payload said' n k s = record {
-    status = told_by so_far.status (status_in (kind_of (trim_end payload.now)));
-    says = said_by so_far.status (status_in (kind_of (trim_end payload.now))) ∙ ap (option_or (option_map word_of (status_in (kind_of (trim_end payload.now))))) so_far.says ∙ sym s;
-    goes_on = so_far.goes_on ∙ ap (telling so_far.status) (packets_some left x rest n ∙ ap (λ z. pkt z ∷ packets_in rest) k);
-  }
-
+module _ (bytes : List ℕ) (s : Status) (left : List ℕ) (so_far : Leads bytes s left) (rest : List ℕ) where
   module _ (x : Packet (Bor (List ℕ))) (n : Next left (Some x) rest) where
-    ends_with : (y : Packet (Bor (List ℕ))) → x ≡ y → telling Previous (packets_in bytes) ≡ telling so_far.status (pkt y ∷ packets_in rest)
-    ends_with y k = so_far.goes_on ∙ ap (telling so_far.status) (packets_some left x rest n ∙ ap (λ z. pkt z ∷ packets_in rest) k)
+    goes_on : (y : Packet (Bor (List ℕ))) → x ≡ y → telling Previous (packets_in bytes) ≡ telling s (pkt y ∷ packets_in rest)
+    goes_on y k = so_far ∙ ap (telling s) (packets_some left x rest n ∙ ap (λ z. pkt z ∷ packets_in rest) k)
 
-    pub told_at_flush : x ≡ Flush → Told said ≡ in_words (telling Previous (packets_in bytes))
-    told_at_flush k = ap Told (sym so_far.says) ∙ ap in_words (sym (ends_with Flush k))
+    module _ (payload : Bor (List ℕ)) (k : x ≡ Data payload) where
+      pub leads_line : (t : List ℕ) (s' : Status) → Ok t ≡ text_of payload.now → s' ≡ told_by s (status_in (kind_of t)) → Leads bytes s' rest
+      leads_line t s' e f =
+          goes_on (Data payload) k ∙ ap (on_text (λ text. telling (told_by s (status_in (kind_of text))) (packets_in rest))) (sym e) ∙ ap (λ y. telling y (packets_in rest)) (sym f)
 
-    pub marked_at_marker : (x ≡ Delimiter) ⊎ (x ≡ ResponseEnd) → Marked ≡ in_words (telling Previous (packets_in bytes))
-    marked_at_marker k = ⊎_elim (λ d. ap in_words (sym (ends_with Delimiter d))) (λ r. ap in_words (sym (ends_with ResponseEnd r))) k
+      pub cut_at_line : (m : ℕ) → Err m ≡ text_of payload.now → cut ≡ telling Previous (packets_in bytes)
+      cut_at_line m e = sym (goes_on (Data payload) k ∙ ap (on_text (λ text. telling (told_by s (status_in (kind_of text))) (packets_in rest))) (sym e))
 
-  pub cut_at_end : Next left None rest → Cut ≡ in_words (telling Previous (packets_in bytes))
-  cut_at_end n = ap in_words (sym (so_far.goes_on ∙ ap (telling so_far.status) (packets_none left rest n)))
+    pub told_at_flush : x ≡ Flush → told s ≡ telling Previous (packets_in bytes)
+    told_at_flush k = sym (goes_on Flush k)
+
+    pub marked_at_marker : (x ≡ Delimiter) ⊎ (x ≡ ResponseEnd) → marked ≡ telling Previous (packets_in bytes)
+    marked_at_marker k = ⊎_elim (λ d. sym (goes_on Delimiter d)) (λ r. sym (goes_on ResponseEnd r)) k
+
+  pub cut_at_end : Next left None rest → cut ≡ telling Previous (packets_in bytes)
+  cut_at_end n = sym (so_far ∙ ap (telling s) (packets_none left rest n))

@@ -1,5 +1,5 @@
 -- Calls are worked off one behind the other.
-use Rattle.std.proofs.Common.{◌≡◌, ℕ, zero, suc, ◌+◌, ◌<◌, ◌≤◌, Bool, List, [], ◌∷◌, ◌++◌, map, length, take, replicate, Some, None, Option, refl, sym, ap, ◌∙◌, subst, arith}
+use Rattle.std.proofs.Common.{◌≡◌, ℕ, ◌+◌, ◌<◌, ◌≤◌, Bool, List, [], ◌∷◌, ◌++◌, map, length, take, replicate, Some, None, refl, sym, ap, ◌∙◌, subst, arith}
 use Rattle.std.specs.Prelude.{slice_index_or, slice_set}
 use Rattle.std.proofs.lemmas.List.{take_all, take_more, take_more_set, map_push, map-set, get_or-map, set-get_or, length-map, length-take}
 use Rattle.host.specs.Talk.{Areas, Sight}
@@ -8,7 +8,6 @@ use Rattle.rules.specs.Answers.{Answer, payload}
 use Rattle.rules.specs.Promises.{IsStep, IsLife}
 use Rattle.rules.proofs.Living.{life_start, life_more}
 use Rattle.exchange.specs.declared.call.Call.{Call}
-use Rattle.exchange.specs.declared.call.Call.TheVariants.{CloseAll}
 use Rattle.exchange.specs.declared.call.Entry.{Entry}
 use Rattle.exchange.specs.declared.answer.Answer.{Answer as Told}
 use Rattle.exchange.specs.Runs.{IsRun}

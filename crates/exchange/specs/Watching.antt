@@ -1,14 +1,6 @@
 -- The key in code: what is seen of each call, the words by which a status is judged, and which processes run.
-use Rattle.std.specs.Prelude.{◌≡◌, ℕ, Bool, false, cond, List, [], ◌∷◌, length, map, Some, None, codes, Option, ◌==◌}
-use Rattle.std.specs.Borrow.{Bor}
-use Rattle.std.specs.Option.{option_map_or}
-use Rattle.std.specs.Str.{chars_after}
-use Rattle.packetline.specs.Metadata.{whites}
+use Rattle.std.specs.Prelude.{◌≡◌, ℕ, List, length, map}
 use Rattle.packetline.specs.Packets.{Pkt, decode}
-use Rattle.process.specs.declared.status.Word.{Word}
-use Rattle.process.specs.declared.status.Word.TheVariants.{Success, Delayed, Abort, Error, Other}
-use Rattle.process.specs.declared.status.Status.{Status}
-use Rattle.process.specs.declared.status.Status.TheVariants.{Previous, Unset, Named}
 use Rattle.rules.specs.Calls.{Call, Turn}
 use Rattle.rules.specs.Stories.{Telling, told, marked, cut}
 use Rattle.rules.specs.Lives.{Life, run, Begins}
@@ -43,51 +35,10 @@ afterwards_of Reads = reads
 abbrev pub packets_in : List ℕ → List Pkt
 packets_in bytes = (decode bytes).packets
 
--- a status is judged by its word alone, if it has one
-abbrev pub word_in : Status → Option Word
-word_in Previous = None
-word_in Unset = None
-word_in (Named w n) = Some w
-
-abbrev pub in_words : Telling → TellingInCode
-in_words (told s) = Told (word_in s)
-in_words marked = Marked
-in_words cut = Cut
-
--- a status by its word; its length is not known
-abbrev pub by_word : Option Word → Status
-by_word None = Unset
-by_word (Some w) = Named w 0
-
 abbrev pub telling_of : TellingInCode → Telling
-telling_of (Told w) = told (by_word w)
+telling_of (Told s) = told s
 telling_of Marked = marked
 telling_of Cut = cut
-
--- Characters, as they are read from any bytes, text or not
-
--- a character of which n more bytes are to come, and what follows
-abbrev pub chars_from : ℕ → Option (ℕ × Bor (List ℕ)) → List ℕ
-chars_from n None = []
-chars_from n (Some x) = chars_after n x.0 x.1.now
-
--- what follows characters at the front of others
-abbrev pub behind : List ℕ → List ℕ → Option (List ℕ)
-behind [] cs = Some cs
-behind (t ∷ ts) [] = None
-behind (t ∷ ts) (c ∷ cs) = cond (c == t) (behind ts cs) None
-
--- characters are these, and white space behind them
-abbrev pub spelt : List ℕ → List ℕ → Bool
-spelt ts cs = option_map_or whites (behind ts cs) false
-
--- the word that characters spell
-abbrev pub word_spelt : List ℕ → Word
-word_spelt cs =
-    cond (spelt (codes "success") cs) Success
-    (cond (spelt (codes "delayed") cs) Delayed
-    (cond (spelt (codes "abort") cs) Abort
-    (cond (spelt (codes "error") cs) Error Other)))
 
 -- Calls
 

@@ -1,23 +1,20 @@
 //! The key: which processes still run, from what is seen of an exchange.
-ghost use Rattle.std.specs.Prelude.{◌≡◌, ℕ, suc, ◌+◌, ◌*◌, ◌≤◌, ◌<◌, length, map, [], IfSome, IfOk, OnOk, OnErr, Option, vec_len, vec_capacity};
-ghost use Rattle.std.specs.Option.{option_map};
-ghost use Rattle.std.specs.Char.{is_whitespace as is_white_char};
-ghost use Rattle.std.specs.Str.{chars, chars_after};
+ghost use Rattle.std.specs.Prelude.{◌≡◌, ℕ, ◌≤◌, map, [], IfOk, OnOk, OnErr, vec_len, vec_capacity};
 ghost use Rattle.packetline.specs.Lines.{kind_of};
-ghost use Rattle.packetline.specs.Metadata.{whites};
-ghost use Rattle.packetline.specs.Text.{trim_end};
 ghost use Rattle.process.specs.declared.status.Status.TheVariants.{Previous as previous};
-ghost use Rattle.process.specs.Statuses.{word_of, status_in};
+ghost use Rattle.process.specs.Statuses.{status_in, told_by};
 ghost use Rattle.rules.specs.Stories.{telling, behind_flushes};
 ghost use Rattle.rules.specs.Key.{after_telling, begins_with_payload, after_call, after_meeting, afterwards, is_running, is_read_from, some_read_from, others, settled, untalked, key_step, key};
 ghost use Rattle.exchange.specs.Values.{call_of};
-ghost use Rattle.exchange.specs.Watching.{seen_by, running, afterwards_of, packets_in, in_words, telling_of, chars_from, behind, spelt, word_spelt, watched_call, TellsWhoRuns};
+ghost use Rattle.exchange.specs.Watching.{seen_by, running, afterwards_of, packets_in, telling_of, watched_call, TellsWhoRuns};
 
 use crate::call::Call;
 use host::fault::Fault;
 use packetline::decode::{PacketLines, count};
+use packetline::line::Line;
 use packetline::packet::Packet;
-use process::status::Word;
+use packetline::text::text;
+use process::status::{Status, Word};
 use std::alloc::{AllocError, Global};
 
 /// What is seen of a call: with which process it talked, the bytes that this gave, and how the input ended, if it did.
@@ -48,10 +45,10 @@ pub struct Runners {
     pub all: Vec<Runner>,
 }
 
-/// What packets tell up to a flush: a status, by its word if it has one; none, since a marker came; or none, since they are cut off before.
+/// What packets tell up to a flush: a status; none, since a marker came; or none, since they are cut off before, by a line that is no text too.
 #[derive(Clone, Copy)]
 enum Telling {
-    Told(Option<Word>),
+    Told(Status),
     Marked,
     Cut,
 }
@@ -64,132 +61,32 @@ enum Afterwards {
     Reads,
 }
 
-// The key is defined for all bytes, so lines are read as characters whether they are text or not: a talk stops at a line that is none, and what it would say does not matter.
-
-/// A character with one more byte, and what follows.
-fn with_next_byte(c: u32, bytes: &[u8]) -> Option<(u32, &[u8])>
-    requires { c ≤ 528447 }
-    ensures value { (n : ℕ) → chars_after (suc n) c bytes.now ≡ chars_from n result }
-    ensures bound { IfSome result (λ x. x.0 ≤ c * 64 + 127) }
-    ensures shorter { IfSome result (λ x. length x.1.now < length bytes.now) }
+/// A status after a line more.
+fn told_by(told: Status, text: &[u8]) -> Status
+    ensures { result ≡ told_by told (status_in (kind_of text.now)) }
 {
-    let Some((byte, rest)) = bytes.split_first() else {
-        return None;
-    };
-    let bits = byte.saturating_sub(128);
-    Some((c * 64 + bits as u32, rest))
-}
-
-/// The first character, and what follows.
-fn split_char(bytes: &[u8]) -> Option<(u32, &[u8])>
-    ensures value { chars bytes.now ≡ chars_from 0 result }
-    ensures shorter { IfSome result (λ x. length x.1.now < length bytes.now) }
-{
-    let Some((first, rest)) = bytes.split_first() else {
-        return None;
-    };
-    let first = *first;
-    if first < 128 {
-        return Some((first as u32, rest));
+    match Line::read(text) {
+        Line::Status(name) => Status::Named(Word::from(name), name.len()),
+        _ => told.as_first(),
     }
-    if first < 224 {
-        return with_next_byte(first.saturating_sub(192) as u32, rest);
-    }
-    if first < 240 {
-        let Some((c, rest)) = with_next_byte(first as u32 - 224, rest) else {
-            return None;
-        };
-        return with_next_byte(c, rest);
-    }
-    let Some((c, rest)) = with_next_byte(first as u32 - 240, rest) else {
-        return None;
-    };
-    let Some((c, rest)) = with_next_byte(c, rest) else {
-        return None;
-    };
-    with_next_byte(c, rest)
-}
-
-/// What follows these characters at the front of bytes.
-fn behind<'a>(characters: &[u8], bytes: &'a [u8]) -> Option<&'a [u8]>
-    ensures { option_map (λ x. chars x.now) result ≡ behind characters.now (chars bytes.now) }
-{
-    let mut left = bytes;
-    for &character in characters {
-        let Some((c, rest)) = split_char(left) else {
-            return None;
-        };
-        if c != character as u32 {
-            return None;
-        }
-        left = rest;
-    }
-    Some(left)
-}
-
-fn is_white_char(c: u32) -> bool
-    ensures { result ≡ is_white_char c }
-{
-    char::from_u32(c).is_some_and(|c| c.is_whitespace())
-}
-
-fn is_white(bytes: &[u8]) -> bool
-    ensures { result ≡ whites (chars bytes.now) }
-{
-    let mut left = bytes;
-    while let Some((c, rest)) = split_char(left) {
-        if !is_white_char(c) {
-            return false;
-        }
-        left = rest;
-    }
-    true
-}
-
-/// Whether bytes spell these characters, and white space behind them.
-fn spells(bytes: &[u8], characters: &[u8]) -> bool
-    ensures { result ≡ spelt characters.now (chars bytes.now) }
-{
-    behind(characters, bytes).is_some_and(is_white)
-}
-
-/// The word of a status name.
-fn word(name: &[u8]) -> Word
-    ensures { result ≡ word_spelt (chars name.now) }
-{
-    if spells(name, b"success") {
-        return Word::Success;
-    }
-    if spells(name, b"delayed") {
-        return Word::Delayed;
-    }
-    if spells(name, b"abort") {
-        return Word::Abort;
-    }
-    if spells(name, b"error") {
-        return Word::Error;
-    }
-    Word::Other
-}
-
-/// The word of the status that a line tells, if it tells one.
-fn word_told(payload: &[u8]) -> Option<Word>
-    ensures { result ≡ option_map word_of (status_in (kind_of (trim_end payload.now))) }
-{
-    behind(b"status=", payload).map(word)
 }
 
 /// What the packets of `bytes` tell.
 fn telling_in(bytes: &[u8]) -> Telling
-    ensures { result ≡ in_words (telling previous (packets_in bytes.now)) }
+    ensures { telling_of result ≡ telling previous (packets_in bytes.now) }
 {
     let mut lines = PacketLines::new(bytes);
-    let mut told = None;
+    let mut told = Status::Previous;
     while let Some(packet) = lines.next() {
         match packet {
             Packet::Flush => return Telling::Told(told),
             Packet::Delimiter | Packet::ResponseEnd => return Telling::Marked,
-            Packet::Data(payload) => told = word_told(payload).or(told),
+            Packet::Data(payload) => {
+                let Ok(text) = text(payload) else {
+                    return Telling::Cut;
+                };
+                told = told_by(told, text.as_bytes());
+            }
         }
     }
     Telling::Cut
@@ -226,15 +123,15 @@ fn after_telling(telling: Telling, ended: Option<Fault>, call: Call<'_>) -> Afte
     ensures { (rows room : ℕ) → afterwards_of result ≡ after_telling (telling_of telling) ended (call_of rows room call.entry) }
 {
     match telling {
-        Telling::Told(Some(Word::Success)) => match call {
+        Telling::Told(Status::Named(Word::Success, _)) => match call {
             Call::List(_) => Afterwards::Lives,
             _ => Afterwards::Reads,
         },
-        Telling::Told(Some(Word::Delayed)) => match call {
+        Telling::Told(Status::Named(Word::Delayed, _)) => match call {
             Call::Apply(_, _, _) => Afterwards::Lives,
             _ => Afterwards::Dies,
         },
-        Telling::Told(Some(Word::Abort | Word::Error)) => Afterwards::Lives,
+        Telling::Told(Status::Named(Word::Abort | Word::Error, _)) => Afterwards::Lives,
         Telling::Told(_) | Telling::Marked => Afterwards::Dies,
         Telling::Cut => match ended {
             Some(Fault::Closed | Fault::Broken) => Afterwards::Dies,

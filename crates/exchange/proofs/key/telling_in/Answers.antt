@@ -1,5 +1,6 @@
 use Rattle.std.proofs.Common.{rules}
-use Rattle.exchange.proofs.Reading.{leads_first, leads_line, told_at_flush, marked_at_marker, cut_at_end}
+use Rattle.packetline.specs.Text.{text_number}
+use Rattle.exchange.proofs.Reading.{leads_first, leads_line, told_at_flush, marked_at_marker, cut_at_line, cut_at_end}
 use Rattle.exchange.proofs.key.telling_in.Goals as goal
 
 pub loop-packet-init : goal.loop-packet-init
@@ -9,8 +10,8 @@ pub loop-packet-preserved : goal.loop-packet-preserved
 loop-packet-preserved c = (
   tt,
   tt,
-  leads_line c.args.bytes.now c.loop-packet.told c.loop-packet.lines.unread.now c.loop-packet.invariant.2 c.next.new.self.unread.now c.in-Some.packet c.in-Data.payload c.or-told.result
-      c.in-Some.ensures.steps c.in-Data.is (search rules),
+  leads_line c.args.bytes.now c.loop-packet.told c.loop-packet.lines.unread.now c.loop-packet.invariant.2 c.next.new.self.unread.now c.in-Some.packet c.in-Some.ensures.steps c.in-Data.payload c.in-Data.is
+      c.in-Ok.text.now c.told_by-told.result (search rules) (search rules),
 )
 
 pub returns-in-Flush : goal.returns-in-Flush
@@ -20,6 +21,10 @@ returns-in-Flush c =
 pub returns-in-Delimiter : goal.returns-in-Delimiter
 returns-in-Delimiter c =
     marked_at_marker c.args.bytes.now c.loop-packet.told c.loop-packet.lines.unread.now c.loop-packet.invariant.2 c.next.new.self.unread.now c.in-Some.packet c.in-Some.ensures.steps c.in-Delimiter.is
+
+pub returns-in_default-text : goal.returns-in_default-text
+returns-in_default-text c =
+    cut_at_line c.args.bytes.now c.loop-packet.told c.loop-packet.lines.unread.now c.loop-packet.invariant.2 c.next.new.self.unread.now c.in-Some.packet c.in-Some.ensures.steps c.in-Data.payload c.in-Data.is (text_number c.in_default-text.field-0) (search rules)
 
 pub returns : goal.returns
 returns c = cut_at_end c.args.bytes.now c.loop-packet.told c.loop-packet.lines.unread.now c.loop-packet.invariant.2 c.next.new.self.unread.now c.in_default.ensures.steps

@@ -1,4 +1,4 @@
-use Rattle.std.proofs.Common.{arith, rules, subst, sym, ap, ◌∙◌}
+use Rattle.std.proofs.Common.{arith}
 use Rattle.exchange.proofs.Running.{worked_none, worked_more, worked_all, lent_so}
 use Rattle.exchange.proofs.run.run.Goals as goal
 

@@ -1,4 +1,4 @@
-use Rattle.std.proofs.Common.{◌≡◌, length}
+use Rattle.std.proofs.Common.{length}
 use Rattle.host.specs.Talk.{sight}
 use Rattle.exchange.proofs.Running.{Worked}
 use Rattle.exchange.proofs.run.run.Given as goal

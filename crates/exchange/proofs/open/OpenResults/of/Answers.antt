@@ -20,9 +20,9 @@ loop-place-preserved c =
     let table = c.args.table.now.records in
     let h = c.loop-place-test.true in
     elim c.match-get.branch [
-      in-Some+then-is_some w ↦ rw w.processes-is (rw w.count-is (collected_one c.loop-place.processes c.loop-place.count c.loop-place.place c.args.table.now.records.places table.room h c.loop-place.invariant w.in-Some.«record» (search rules) (search rules)))
-    | in-Some+else-is_some w ↦ rw w.processes-is (rw w.count-is (collected_idle c.loop-place.processes c.loop-place.count c.loop-place.place c.args.table.now.records.places table.room h c.loop-place.invariant w.in-Some.«record» (search rules) (search rules)))
-    | in_default w ↦ rw w.processes-is (rw w.count-is (collected_none c.loop-place.processes c.loop-place.count c.loop-place.place c.args.table.now.records.places table.room h c.loop-place.invariant (search rules)))
+      | in-Some+then-is_some w ↦ rw w.processes-is (rw w.count-is (collected_one c.loop-place.processes c.loop-place.count c.loop-place.place c.args.table.now.records.places table.room h c.loop-place.invariant w.in-Some.«record» (search rules) (search rules)))
+      | in-Some+else-is_some w ↦ rw w.processes-is (rw w.count-is (collected_idle c.loop-place.processes c.loop-place.count c.loop-place.place c.args.table.now.records.places table.room h c.loop-place.invariant w.in-Some.«record» (search rules) (search rules)))
+      | in_default w ↦ rw w.processes-is (rw w.count-is (collected_none c.loop-place.processes c.loop-place.count c.loop-place.place c.args.table.now.records.places table.room h c.loop-place.invariant (search rules)))
     ]
 
 pub invariant_of-result : goal.invariant_of-result
