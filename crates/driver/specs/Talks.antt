@@ -42,7 +42,7 @@ pub record Gives (op : Operation) (asked : Asked) (r : Record) (w : Sight) (a : 
       (λ s _. after_exchange r.process op r.capabilities.mask (delayed_if (may_delay asked.delay && can_delay r.capabilities) r.capabilities.mask) s) (after_fault r.capabilities.mask)
       w r.process a answer fate w' a'
 
--- and the record meets its fate
+-- content is given so, and the record meets its fate
 pub record AppliesTo (op : Operation) (asked : Asked) (r : Record) (table : List Place) (w : Sight) (a : Areas) (answer : Answer) (table' : List Place) (w' : Sight) (a' : Areas) : Type 0 where
   pub fate : Fate
   pub then : Sight
