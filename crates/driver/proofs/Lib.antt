@@ -1,0 +1,10 @@
+mod Closings
+mod Concluding
+mod Fetching
+mod Giving
+mod Idle
+mod Listing
+mod Reading
+mod Refused
+mod Rooms
+mod Settling

@@ -12,6 +12,6 @@ use Rattle.rules.specs.Promises.{passes, IsStep}
 
 -- on every outcome the paths named in what was given are stored, as far as there is space
 pub record ListsStep (capacity : ℕ) (c : Call) (has_room : Bool) (table : List Place) (w : Sight) (a : Areas) (rows : List PathRow) (text : List ℕ) (r : Answer) (table' : List Place) (w' : Sight) (a' : Areas) (rows' : List PathRow) (text' : List ℕ) : Type 0 where
-  pub step : IsStep capacity c has_room table w a r table' w' a'
+  pub goes : IsStep capacity c has_room table w a r table' w' a'
   pub many : ℕ
-  pub stores : Stored (named_in (bytes_given (passes (step capacity step.turn (state table w.world)).deeds))) rows text many rows' text'
+  pub stores : Stored (named_in (bytes_given (passes (step capacity goes.turn (state table w.world)).deeds))) rows text many rows' text'

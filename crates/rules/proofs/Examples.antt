@@ -1,5 +1,5 @@
 -- Two lives, by computing.
-use Rattle.std.proofs.Common.{◌≡◌, true, false, [], ◌∷◌, codes, refl}
+use Rattle.std.proofs.Common.{◌≡◌, true, false, [], ◌∷◌, take, codes, refl}
 use Rattle.std.specs.Fmt.{digits}
 use Rattle.std.specs.Str.{chars}
 use Rattle.std.specs.List.{count_by}
@@ -17,6 +17,7 @@ use Rattle.rules.specs.Names.{desired_names}
 use Rattle.rules.specs.Answers.{passed, delayed, result, payload, finished, paths, done, failed, unfinished}
 use Rattle.rules.specs.Stories.{all_given, all_sent, lists, exchanges, results, open_count, aborted, stray_applies}
 use Rattle.rules.specs.Lives.{run, answers_of, is_open}
+use Rattle.rules.specs.Key.{seen_calls, runner, key}
 use Rattle.rules.specs.Examples.{lfs, welcome, playing, by, empty, asks, delaying, delayed_calls, aborting, aborted_calls, ExamplesStand}
 
 delayed_answers : answers_of 16 delayed_calls empty ≡ delayed ∷ paths (record { named = 1; stored = 1; full = false }) ∷ result 0 ∷ payload (codes "hello") ∷ finished ∷ []
@@ -55,5 +56,17 @@ none_open : count_by is_open (run 16 aborted_calls empty).now.world.procs ≡ 0
 unfolding lfs welcome playing by empty asks delaying delayed_calls aborting aborted_calls desired_names front decode after_prefix utf8 trim_end is_number encode chars gather parts with_bit without_bit digits
 none_open = refl
 
+key_fetched : key (seen_calls 16 (take 3 delayed_calls) empty) [] ≡ runner 0 true ∷ []
+unfolding lfs welcome playing by empty asks delaying delayed_calls aborting aborted_calls desired_names front decode after_prefix utf8 trim_end is_number encode chars gather parts with_bit without_bit digits
+key_fetched = refl
+
+key_delayed : key (seen_calls 16 delayed_calls empty) [] ≡ runner 0 false ∷ []
+unfolding lfs welcome playing by empty asks delaying delayed_calls aborting aborted_calls desired_names front decode after_prefix utf8 trim_end is_number encode chars gather parts with_bit without_bit digits
+key_delayed = refl
+
+key_aborted : key (seen_calls 16 aborted_calls empty) [] ≡ []
+unfolding lfs welcome playing by empty asks delaying delayed_calls aborting aborted_calls desired_names front decode after_prefix utf8 trim_end is_number encode chars gather parts with_bit without_bit digits
+key_aborted = refl
+
 pub examples_stand : ExamplesStand
-examples_stand = record { delayed_answers = delayed_answers; counts = counts; came = came; went = went; aborted_answers = aborted_answers; aborted_clean = aborted_clean; aborted_smudge = aborted_smudge; none_astray = none_astray; none_open = none_open }
+examples_stand = record { delayed_answers = delayed_answers; counts = counts; came = came; went = went; aborted_answers = aborted_answers; aborted_clean = aborted_clean; aborted_smudge = aborted_smudge; none_astray = none_astray; none_open = none_open; key_fetched = key_fetched; key_delayed = key_delayed; key_aborted = key_aborted }

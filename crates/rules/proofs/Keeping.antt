@@ -224,8 +224,8 @@ greet_good key p op asked within (Err n) u g s = tt
 
 greets : (key : Key) (p : ℕ) (op : Operation) (asked : Asked) (q : Pipe) (l : Later) → asks_within asked ≡ true → Always (GreetGood Good key p op asked) (λ f v. Unit {0}) (greeting (wire (live q) l []))
 greets key p op asked q l within =
-    weaken (λ x u. MaybeGreeted x u.events × Unstray op u) (GreetGood Good key p op asked) (λ f u. Unit {0} × Unstray op u) (λ f u. Unit {0}) (greeting (wire (live q) l []))
-    (join (λ x u. MaybeGreeted x u.events) (λ x u. Unstray op u) (λ f u. Unit {0}) (λ f u. Unstray op u) (greeting (wire (live q) l [])) (greeting_told (wire (live q) l []) refl)
+    weaken (λ x u. MaybeGreeted x u.events × Unstray op u) (GreetGood Good key p op asked) (λ f u. Cut 1 u.events × Unstray op u) (λ f u. Unit {0}) (greeting (wire (live q) l []))
+    (join (λ x u. MaybeGreeted x u.events) (λ x u. Unstray op u) (λ f u. Cut 1 u.events) (λ f u. Unstray op u) (greeting (wire (live q) l [])) (greeting_told (wire (live q) l []) refl)
     (handshake_kept (Unstray op) (unstray_steady op) (codes "git-filter") (2 ∷ []) desired_names (hello_takes op) (desired_takes op) (wire (live q) l []) refl))
     (λ x u t. greet_good key p op asked within x u t.0 t.1)
     (λ f u t. tt)

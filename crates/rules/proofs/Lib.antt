@@ -7,6 +7,9 @@ pub mod Limits
 pub mod Standing
 pub mod Keeping
 pub mod Standings
+pub mod Tellings
+pub mod Runners
+pub mod Keying
 pub mod Examples
 pub mod Talking
 pub mod Making

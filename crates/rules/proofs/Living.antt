@@ -11,6 +11,7 @@ use Rattle.rules.specs.Steps.{State, state, Deed, starts, talks, ends, Outcome, 
 use Rattle.rules.specs.Lives.{Life, turn, run, answers_of, deeds_of, first_life}
 use Rattle.rules.specs.Promises.{Done, IsStep, IsLife}
 use Rattle.rules.proofs.Standings.{rules_stand, books_stand}
+use Rattle.rules.proofs.Keying.{key_stands}
 
 done_append : (ds es : List Deed) (m n : List Act) → Done ds m → Done es n → Done (ds ++ es) (m ++ n)
 done_append [] es m n h k = subst (Done es) (ap (λ l. l ++ n) (sym h)) k
@@ -45,6 +46,7 @@ life_start capacity w = record {
   grows = grows_none w.log;
   rules = λ none. rules_stand capacity (first_life w.world) (record { empty = refl; none_open = none; unwritten = λ p. refl; none_came = λ p. refl }) [];
   books = λ none. books_stand capacity (first_life w.world) (record { empty = refl; none_open = none; unwritten = λ p. refl; none_came = λ p. refl }) [];
+  key = λ none. key_stands capacity (first_life w.world) (record { empty = refl; none_open = none; unwritten = λ p. refl; none_came = λ p. refl }) [];
 }
 
 pub life_more : {capacity : ℕ} {calls : List Call} {w : Sight} {rs : List Answer} {table₁ : List Place} {w₁ : Sight} {c : Call} {room : Bool} {a : Areas} {r : Answer} {table₂ : List Place} {w₂ : Sight} {a₂ : Areas}
@@ -63,4 +65,5 @@ life_more {capacity} {calls} {w} {rs} {table₁} {w₁} {c} {room} {a} {r} {tabl
       grows = grows_then w.log w₁.log w₂.log l.acts s.acts l.grows s.grows;
       rules = λ none. rules_stand capacity (first_life w.world) (record { empty = refl; none_open = none; unwritten = λ p. refl; none_came = λ p. refl }) (l.turns ++ s.turn ∷ []);
       books = λ none. books_stand capacity (first_life w.world) (record { empty = refl; none_open = none; unwritten = λ p. refl; none_came = λ p. refl }) (l.turns ++ s.turn ∷ []);
+      key = λ none. key_stands capacity (first_life w.world) (record { empty = refl; none_open = none; unwritten = λ p. refl; none_came = λ p. refl }) (l.turns ++ s.turn ∷ []);
     }

@@ -49,7 +49,7 @@ ended_to w p w' d = ended_by w p w' (process w p) refl d
 
 -- A step by its outcome
 
-pub is_step_by : {capacity : ℕ} {c : Call} {room : Bool} {table : List Place} {w : Sight} {a : Areas} {r : Answer} {table' : List Place} {w' : Sight} {a' : Areas} (t : Turn)
+abbrev pub is_step_by : {capacity : ℕ} {c : Call} {room : Bool} {table : List Place} {w : Sight} {a : Areas} {r : Answer} {table' : List Place} {w' : Sight} {a' : Areas} (t : Turn)
     → t.call ≡ c → t.has_room ≡ room → (o : Outcome) → step capacity t (state table w.world) ≡ o → o.answer ≡ r → o.after ≡ state table' w'.world → a' ≡ lay (passes o.deeds) a
     → (acts : List Act) → Done o.deeds acts → Grows w.log acts w'.log → IsStep capacity c room table w a r table' w' a'
 is_step_by {a = a} t is room o e answers reaches laid acts done grows = record {
@@ -95,20 +95,20 @@ module _ {A : Type 0} (f : Wire → Got A) (table : List Place) (r : Record) {w 
 
     module _ (capacity : ℕ) (c : Call) (room : Bool) (is : u.call ≡ c) (room_is : u.has_room ≡ room)
         (goes : step capacity u (state table w.world) ≡ conclude u w.world (its_seat (state table w.world) r) (f (line_to u w.world r)) right wrong) (answer : Answer) where
-      settled : (fate : Fate) → Verdict_of x ≡ verdict answer fate
+      pub settled : (fate : Fate) → Verdict_of x ≡ verdict answer fate
           → step capacity u (state table w.world) ≡ settle_by u w.world (its_seat (state table w.world) r) (wire (process w₁.world r.process) rest t.events) answer fate
       settled fate v =
           goes ∙ concludes ∙ ap (λ d. settle u w.world (its_seat (state table w.world) r) (wire (process w₁.world r.process) rest t.events) d) v
 
       -- the record stays
-      pub stays_step : (m : ℕ) (o : Option Operation) → Verdict_of x ≡ verdict answer (stays m o) → IsStep capacity c room table w a answer (changed (λ _. seated r m o) table r.key) w₁ a₁
+      abbrev pub stays_step : (m : ℕ) (o : Option Operation) → Verdict_of x ≡ verdict answer (stays m o) → IsStep capacity c room table w a answer (changed (λ _. seated r m o) table r.key) w₁ a₁
       stays_step m o v =
           is_step_by u is room_is _ (settled (stays m o) v) refl (ap (state (changed (λ _. seated r m o) table r.key)) (talk_world f t))
           (t.laid ∙ ap (λ es. lay es a) (sym (append-nil t.events)))
           t.acts (t.acts, ([], sym (append-nil t.acts), t.acted, refl)) t.grows
 
       -- the record leaves, and its process is ended
-      pub leaves_step : (how : How) → Verdict_of x ≡ verdict answer (leaves how) → {w₂ : Sight} → Ended w₁.world r.process w₂.world → Grows w₁.log (ending r.process how ∷ []) w₂.log
+      abbrev pub leaves_step : (how : How) → Verdict_of x ≡ verdict answer (leaves how) → {w₂ : Sight} → Ended w₁.world r.process w₂.world → Grows w₁.log (ending r.process how ∷ []) w₂.log
           → u.startable_last ≡ w₂.world.startable → IsStep capacity c room table w a answer (without table r.key) w₂ a₁
       leaves_step how v {w₂ = w₂} d grown last =
           is_step_by u is room_is _ (settled (leaves how) v) refl

@@ -23,7 +23,7 @@ use Rattle.rules.proofs.Totals.{Placed, placed}
 use Rattle.rules.proofs.Making.{is_step_by, ended_to}
 
 -- nothing is changed and nothing done
-pub refuses : {capacity : ℕ} {table : List Place} {w : Sight} (a : Areas) (t : Turn) (n : ℕ) → step capacity t (state table w.world) ≡ refuse n (state table w.world)
+abbrev pub refuses : {capacity : ℕ} {table : List Place} {w : Sight} (a : Areas) (t : Turn) (n : ℕ) → step capacity t (state table w.world) ≡ refuse n (state table w.world)
     → IsStep capacity t.call t.has_room table w a (refused n) table w a
 refuses {w = w} a t n e = is_step_by t refl refl _ e refl refl refl [] refl (grows_none w.log)
 

@@ -399,7 +399,7 @@ module _ (G : Record → Story → Type 0) where
     act_stands capacity t s b l v (give_up p) w = give_up_stands t s b l v p (reading_by s.table p) refl
     act_stands capacity t s b l v close_all w = close_stands t s b l v
 
-    step_stands : (capacity : ℕ) (t : Turn) (s : State) (b : Book) (l : Ledger) → Holds s b l → Stands t.call b l (step capacity t s)
+    pub step_stands : (capacity : ℕ) (t : Turn) (s : State) (b : Book) (l : Ledger) → Holds s b l → Stands t.call b l (step capacity t s)
     step_stands capacity t s b l v = first (needs_areas t.call && not t.has_room)
       where
         second : (z : Bool) → is_within t.call ≡ z → Stands t.call b l (cond z (act capacity t s t.call) (refuse 2 s))
@@ -420,7 +420,7 @@ module _ (G : Record → Story → Type 0) where
   open_none (x ∷ ws) zero e = omega arith
   open_none (x ∷ ws) (suc p) e = open_none ws p (omega arith)
 
-  begins_holds : (l : Life) → Begins l → Holds l.now l.book l.ledger
+  pub begins_holds : (l : Life) → Begins l → Holds l.now l.book l.ledger
   begins_holds l b = record {
     as_many = sym (count_open l.now.world.procs) ∙ b.none_open ∙ sym (none_held (λ r. 1) l.now.table b.empty);
     one_to_each = λ p. none_held (of_process p) l.now.table b.empty ∙ sym (open_none l.now.world.procs p (sym (count_open l.now.world.procs) ∙ b.none_open));

@@ -67,7 +67,7 @@ module _ (v : Wire) (gs ss : List Pkt) (s : Sofar gs ss v.events) where
   until_heard u hs ts c =
       ap (λ xs. (decode xs).packets) c.given ∙ ap (λ (d : Decoded). d.packets) (decode_append (bytes_given v.events) c.bytes gs s.heard) ∙ ap (λ ps. gs ++ ps) c.reads
 
-  passed_always : {A : Type 0} (P : List Pkt → List Pkt → A → Type 0) (Q : List Pkt → List Pkt → Type 0) (g : Got A) → Passed P Q v g → Always (Heard P gs ss) (Cutoff Q gs) g
+  pub passed_always : {A : Type 0} (P : List Pkt → List Pkt → A → Type 0) (Q : List Pkt → List Pkt → Type 0) (g : Got A) → Passed P Q v g → Always (Heard P gs ss) (Cutoff Q gs) g
   passed_always P Q (got a u) (hs, (ts, c, p)) = (hs, (ts, since_sofar u hs ts c, p))
   passed_always P Q (lost f u) (hs, (ts, c, q)) = (hs, (ts, until_heard u hs ts c, q))
 
@@ -186,9 +186,10 @@ pub record Greeted (x : Shaken) (es : List Event) : Type 0 where
   pub ends : Ends 2 heard
   pub naming : (op : Operation) → holds x.mask (operation_place op) ≡ true → (rest : List Pkt) → names_before op 2 (heard ++ rest) ≡ true
 
+-- where the handshake went wrong, less than two flushes were given
 abbrev pub MaybeGreeted : Result Shaken ℕ → List Event → Type 0
 MaybeGreeted (Ok x) es = Greeted x es
-MaybeGreeted (Err n) es = Unit {0}
+MaybeGreeted (Err n) es = Cut 1 es
 
 -- the place of an operation's name is that of no other text
 its_name : (op : Operation) (s : List ℕ) → place_of desired_names s ≡ Some (operation_place op) → operation_name op ≡ s
@@ -238,12 +239,12 @@ greeted x u hs ts c (said, a) = record {
 
 maybe_greeted : (r : Result Shaken ℕ) (u : Wire) (hs ts : List Pkt) → Sofar hs ts u.events → Shook (codes "git-filter") (2 ∷ []) desired_names hs ts r → MaybeGreeted r u.events
 maybe_greeted (Ok x) u hs ts c h = greeted x u hs ts c h
-maybe_greeted (Err n) u hs ts c h = tt
+maybe_greeted (Err n) u hs ts c h = cut_of 1 hs ts u.events c h
 
-pub greeting_told : (v : Wire) → v.events ≡ [] → Always (λ r u. MaybeGreeted r u.events) (λ f u. Unit {0}) (greeting v)
+pub greeting_told : (v : Wire) → v.events ≡ [] → Always (λ r u. MaybeGreeted r u.events) (λ f u. Cut 1 u.events) (greeting v)
 greeting_told v e =
-    weaken (Heard (Shook (codes "git-filter") (2 ∷ []) desired_names) [] []) (λ r u. MaybeGreeted r u.events) (Cutoff (Few (codes "git-filter") (2 ∷ []) desired_names) []) (λ f u. Unit {0}) (greeting v)
+    weaken (Heard (Shook (codes "git-filter") (2 ∷ []) desired_names) [] []) (λ r u. MaybeGreeted r u.events) (Cutoff (Few (codes "git-filter") (2 ∷ []) desired_names) []) (λ f u. Cut 1 u.events) (greeting v)
     (passed_always v [] [] (subst (Sofar [] []) (sym e) nothing) (Shook (codes "git-filter") (2 ∷ []) desired_names) (Few (codes "git-filter") (2 ∷ []) desired_names) (greeting v)
     (handshake_passes (codes "git-filter") (2 ∷ []) desired_names v).by)
     (λ r u (hs, (ts, c, p)). maybe_greeted r u hs ts c p)
-    (λ f u q. tt)
+    (λ f u (hs, (ts, c, q)). let x = ap flushes_of c in omega arith)

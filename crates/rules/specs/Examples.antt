@@ -1,5 +1,5 @@
 -- Two lives, packet by packet.
-use Rattle.std.specs.Prelude.{◌≡◌, ℕ, true, false, List, [], ◌∷◌, ◌++◌, None, Some, codes, replicate, refl}
+use Rattle.std.specs.Prelude.{◌≡◌, ℕ, true, false, List, [], ◌∷◌, ◌++◌, None, Some, codes, replicate, take, refl}
 use Rattle.std.specs.List.{count_by}
 use Rattle.std.proofs.Common.{arith}
 use Rattle.packetline.specs.Packets.{Pkt, flush, line_pkt, packets, flushes}
@@ -16,6 +16,7 @@ use Rattle.rules.specs.Calls.{Asked, Call, apply, fetch, list, read, close_all, 
 use Rattle.rules.specs.Answers.{passed, delayed, result, payload, finished, paths, done, failed, unfinished}
 use Rattle.rules.specs.Stories.{all_given, all_sent, lists, exchanges, results, open_count, aborted, stray_applies}
 use Rattle.rules.specs.Lives.{Life, first_life, run, answers_of, is_open}
+use Rattle.rules.specs.Key.{seen_calls, runner, key}
 
 unfoldable pub lfs : Key
 lfs = record { text = record { bytes = codes "git-lfs" ++ replicate 121 0; len = 7; room = refl; fits = omega arith }; lawful = refl }
@@ -75,3 +76,7 @@ pub record ExamplesStand : Type 0 where
   pub aborted_smudge : aborted Smudge ((run 16 aborted_calls empty).book 0) ≡ false
   pub none_astray : stray_applies ((run 16 aborted_calls empty).book 0) ≡ 0
   pub none_open : count_by is_open (run 16 aborted_calls empty).now.world.procs ≡ 0
+  -- the key: a result is being read behind the fetch, and not any more at the end; all are closed
+  pub key_fetched : key (seen_calls 16 (take 3 delayed_calls) empty) [] ≡ runner 0 true ∷ []
+  pub key_delayed : key (seen_calls 16 delayed_calls empty) [] ≡ runner 0 false ∷ []
+  pub key_aborted : key (seen_calls 16 aborted_calls empty) [] ≡ []

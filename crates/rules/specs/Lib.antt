@@ -5,5 +5,6 @@ pub mod Steps
 pub mod Stories
 pub mod Lives
 pub mod Rules
+pub mod Key
 pub mod Examples
 pub mod Promises

@@ -10,6 +10,7 @@ use Rattle.rules.specs.Answers.{Answer}
 use Rattle.rules.specs.Steps.{state, Deed, starts, talks, ends, step}
 use Rattle.rules.specs.Lives.{run, answers_of, deeds_of, is_open, first_life}
 use Rattle.rules.specs.Rules.{Rules, Honest}
+use Rattle.rules.specs.Key.{KeyFits}
 
 -- these acts of a host, the latest first, are those deeds
 abbrev pub Done : List Deed → List Act → Type 0
@@ -42,7 +43,7 @@ pub record IsStep (capacity : ℕ) (c : Call) (has_room : Bool) (table : List Pl
 
 -- Calls were worked off on an empty table, one behind the other, and answered so: there are turns of exactly these calls with exactly these answers that
 -- lead to exactly this table and this host, and their deeds are what the host's log, if it keeps one, has grown by. Where no process was open at the
--- beginning the rules stand there, and the books are honest.
+-- beginning the rules stand there, the books are honest, and the key tells which processes run.
 pub record IsLife (capacity : ℕ) (calls : List Call) (w : Sight) (rs : List Answer) (table' : List Place) (w' : Sight) : Type 0 where
   pub turns : List Turn
   pub are : map (λ t. t.call) turns ≡ calls
@@ -53,3 +54,4 @@ pub record IsLife (capacity : ℕ) (calls : List Call) (w : Sight) (rs : List An
   pub grows : Grows w.log acts w'.log
   pub rules : count_by is_open w.world.procs ≡ 0 → Rules (run capacity turns (first_life w.world))
   pub books : count_by is_open w.world.procs ≡ 0 → Honest (run capacity turns (first_life w.world))
+  pub key : count_by is_open w.world.procs ≡ 0 → KeyFits capacity turns (first_life w.world)

@@ -151,13 +151,27 @@ behind_flushes (suc k) (delimiter ∷ ps) = behind_flushes (suc k) ps
 behind_flushes (suc k) (response_end ∷ ps) = behind_flushes (suc k) ps
 behind_flushes (suc k) (line payload ∷ ps) = behind_flushes (suc k) ps
 
+-- what packets tell up to a flush: a status; none, since a marker came where a line is wanted; or none, since they are cut off before
+pub data Telling : Type 0 where
+  told : Status → Telling
+  marked cut : Telling
+
+-- the same after lines that told a status
+abbrev pub telling : Status → List Pkt → Telling
+telling s [] = cut
+telling s (flush ∷ ps) = told s
+telling s (delimiter ∷ ps) = marked
+telling s (response_end ∷ ps) = marked
+telling s (line payload ∷ ps) = telling (told_by s (status_in (kind_of (trim_end payload)))) ps
+
+abbrev pub status_told : Telling → Option Status
+status_told (told s) = Some s
+status_told marked = None
+status_told cut = None
+
 -- the status that packets tell up to a flush, after lines that told another; none where no flush comes
 abbrev pub status_from : Status → List Pkt → Option Status
-status_from s [] = None
-status_from s (flush ∷ ps) = Some s
-status_from s (delimiter ∷ ps) = None
-status_from s (response_end ∷ ps) = None
-status_from s (line payload ∷ ps) = status_from (told_by s (status_in (kind_of (trim_end payload)))) ps
+status_from s ps = status_told (telling s ps)
 
 -- a first call's handshake has two flushes; a listing's paths and a result's content have one
 abbrev pub flushes_before : Call → Story → ℕ

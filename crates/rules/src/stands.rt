@@ -1,5 +1,6 @@
 //! What is proved of a table's life. Nothing of it is public yet: the table's public call will carry it.
 ghost use Rattle.rules.specs.Rules.{RulesStand, BooksStand};
+ghost use Rattle.rules.specs.Key.{KeyStands};
 ghost use Rattle.rules.specs.Examples.{ExamplesStand};
 
 /// After every list of calls the rules stand and the books are honest.
@@ -7,6 +8,12 @@ ghost use Rattle.rules.specs.Examples.{ExamplesStand};
 fn rules_stand()
     ensures rules { RulesStand }
     ensures books { BooksStand }
+{}
+
+/// After every list of calls the key tells which processes run.
+// Private as well, for the same reason.
+fn key_stands()
+    ensures { KeyStands }
 {}
 
 /// Two lives, by computing.
