@@ -153,11 +153,11 @@ impl Marked {
 }
 
 /// Prints the calls, each with its packets and its answer.
-fn print_calls(
+fn print_calls<'a>(
     rt: &HostRuntime,
     asked: &[Asked<'_>],
-    entries: &[Entry<'_>],
-    notes: &[Passed],
+    entries: &'a [Entry<'a>],
+    notes: &'a [Passed],
     sights: &[Sight],
 ) -> anyhow::Result<Marked> {
     let heap = rt.alloc();
