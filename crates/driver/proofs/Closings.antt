@@ -21,14 +21,14 @@ use Rattle.driver.proofs.Concluding.{free_turn, last_turn}
 abbrev pub first_held : ℕ → List Place → List Record
 first_held n table = held (take n table)
 
-pub held_next : (n : ℕ) (table : List Place) → n < length table → first_held (suc n) table ≡ first_held n table ++ option_to_list (slice_index_or table n None)
+held_next : (n : ℕ) (table : List Place) → n < length table → first_held (suc n) table ≡ first_held n table ++ option_to_list (slice_index_or table n None)
 held_next n [] h = absurd (omega arith)
 held_next zero (None ∷ ps) h = refl
 held_next zero (Some r ∷ ps) h = refl
 held_next (suc n) (None ∷ ps) h = held_next n ps (omega arith)
 held_next (suc n) (Some r ∷ ps) h = ap (λ rs. r ∷ rs) (held_next n ps (omega arith))
 
-next_held : (n : ℕ) (table : List Place) → n < length table → first_held (n + 1) table ≡ first_held n table ++ option_to_list (slice_index_or table n None)
+pub next_held : (n : ℕ) (table : List Place) → n < length table → first_held (n + 1) table ≡ first_held n table ++ option_to_list (slice_index_or table n None)
 next_held n table h = (let z : n + 1 ≡ suc n = omega arith in ap (λ m. first_held m table) z) ∙ held_next n table h
 
 module _ (n : ℕ) (table : List Place) (inside : n < length table) {w w₁ : Sight} (c : Closes (first_held n table) w w₁) where

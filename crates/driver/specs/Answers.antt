@@ -108,6 +108,12 @@ piece_read area (Ok (Some n)) = payload (take n area)
 piece_read area (Ok None) = finished
 piece_read area (Err e) = unread_answer e
 
+-- the length of a payload
+abbrev pub payload_length : Result (Option ℕ) Unread → ℕ
+payload_length (Ok (Some n)) = n
+payload_length (Ok None) = 0
+payload_length (Err e) = 0
+
 abbrev pub read_answer : ReadError → Answer
 read_answer (Refuses r) = misused r.why
 read_answer (Lost f) = fault f
@@ -117,6 +123,11 @@ abbrev pub was_read : List ℕ → Result Read ReadError → Answer
 was_read area (Ok (Payload n t)) = payload (take n area)
 was_read area (Ok End) = finished
 was_read area (Err e) = read_answer e
+
+abbrev pub read_length : Result Read ReadError → ℕ
+read_length (Ok (Payload n t)) = n
+read_length (Ok End) = 0
+read_length (Err e) = 0
 
 -- a payload and a refused read hand back the result of this process
 abbrev pub HandsBack : ℕ → Result Read ReadError → Type 0

@@ -3,3 +3,4 @@ pub mod Asking
 pub mod Fates
 pub mod Talks
 pub mod Storing
+pub mod Knowing

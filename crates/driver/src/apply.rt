@@ -1,10 +1,11 @@
 //! Content is given to a process.
-ghost use Rattle.std.specs.Prelude.{◌≡◌, true};
+ghost use Rattle.std.specs.Prelude.{◌≡◌, ◌&&◌, true};
 ghost use Rattle.host.specs.Calls.{has_room};
 ghost use Rattle.host.specs.Talk.{sight, areas};
 ghost use Rattle.process.specs.Given.{have_room};
 ghost use Rattle.records.specs.Contexts.{is_context};
-ghost use Rattle.rules.specs.Calls.{apply};
+ghost use Rattle.rules.specs.Calls.{apply, may_delay};
+ghost use Rattle.rules.specs.Names.{can_delay};
 ghost use Rattle.rules.specs.Promises.{IsStep};
 ghost use Rattle.rules.specs.Steps.{verdict, after_exchange, never_delayed, delayed_if};
 ghost use Rattle.driver.specs.Answers.{applied, apply_answer, number_in, result_or_status, launched};
@@ -22,6 +23,7 @@ use host::fault::LineFault;
 use host::host::{Host, How};
 use host::inner::MAX_LINE_LEN;
 use process::area::MAX_STATUS_LEN;
+use process::capabilities::Capabilities;
 use process::status::{Status, Word};
 use records::context::{Context, Delay};
 use records::key::Key;
@@ -108,6 +110,13 @@ fn after_apply(
     (answer, fate)
 }
 
+/// Whether a process may answer later: the caller allows it, and the process named it.
+fn may_answer_later(delay: Delay, able: Capabilities) -> bool
+    ensures { result ≡ (may_delay delay && can_delay able) }
+{
+    matches!(delay, Delay::Allow) && able.contains(DELAY)
+}
+
 // Host and areas stand apart here and below, as the client's calls have them.
 /// Content is given to a record's process, if that can do the operation: what the call answers, and what becomes of the record.
 fn give<H: Host>(
@@ -128,7 +137,7 @@ fn give<H: Host>(
     if !able.contains(operation.place()) {
         return (Ok(Applied::Passed), Fate::Stays(able, record.reading));
     }
-    let allowed = matches!(delay, Delay::Allow) && able.contains(DELAY);
+    let allowed = may_answer_later(delay, able);
     match ask(
         host,
         record.process,

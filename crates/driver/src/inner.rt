@@ -1,13 +1,13 @@
 //! What this crate lends the next: reads by the number of a process, and results for a caller who keeps such numbers.
-ghost use Rattle.std.specs.Prelude.{◌≡◌, ℕ, Bool, List};
+ghost use Rattle.std.specs.Prelude.{◌≡◌, ◌≤◌, ℕ, Bool, List, length, IfOk};
 ghost use Rattle.host.specs.Talk.{Wire, Areas, sight, areas};
 ghost use Rattle.process.specs.Given.{have_room};
 ghost use Rattle.rules.specs.Calls.{read, give_up};
 ghost use Rattle.rules.specs.Promises.{IsStep};
 ghost use Rattle.slices.specs.Answers.{told};
-ghost use Rattle.client.specs.Results.{piece_of};
+ghost use Rattle.client.specs.Results.{piece_of, output_length};
 ghost use Rattle.rules.specs.Steps.{verdict, after_piece, result_lost};
-ghost use Rattle.driver.specs.Answers.{piece_read, done_or};
+ghost use Rattle.driver.specs.Answers.{piece_read, payload_length, done_or};
 ghost use Rattle.driver.specs.Fates.{fate_of};
 ghost use Rattle.driver.specs.Talks.{judged};
 
@@ -46,7 +46,9 @@ fn after_read(
     operation: Operation,
     said: Result<Output, LineFault>,
 ) -> (Result<Option<usize>, Unread>, Fate)
-    ensures { (area : List ℕ) (v : Wire) → verdict (piece_read area result.0) (fate_of result.1) ≡ judged (λ x _. after_piece operation record.now.capabilities.mask x) (result_lost record.now.capabilities.mask) (told (piece_of area) (λ f. f) said) v }
+    requires { IfOk said (λ o. output_length o ≤ 65516) }
+    ensures bound { payload_length result.0 ≤ 65516 }
+    ensures judged { (area : List ℕ) (v : Wire) → verdict (piece_read area result.0) (fate_of result.1) ≡ judged (λ x _. after_piece operation record.now.capabilities.mask x) (result_lost record.now.capabilities.mask) (told (piece_of area) (λ f. f) said) v }
 {
     let able = record.capabilities;
     match said {
@@ -71,7 +73,8 @@ pub fn read<H: Host>(
     status: &mut [u8],
     process: usize,
 ) -> Result<Option<usize>, Unread>
-    ensures { IsStep H.capacity (read process) (have_room work.old status.old) state.old.records.places (sight (H.log host.old) (H.world host.old)) (areas work.old status.old) (piece_read work.new result) state.new.records.places (sight (H.log host.new) (H.world host.new)) (areas work.new status.new) }
+    ensures bound { payload_length result ≤ length work.new }
+    ensures step { IsStep H.capacity (read process) (have_room work.old status.old) state.old.records.places (sight (H.log host.old) (H.world host.old)) (areas work.old status.old) (piece_read work.new result) state.new.records.places (sight (H.log host.new) (H.world host.new)) (areas work.new status.new) }
 {
     if work.len() < MAX_LINE_LEN || status.len() < MAX_STATUS_LEN {
         return Err(Unread::Misuse(Misuse::AreaTooShort));

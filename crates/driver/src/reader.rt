@@ -1,10 +1,10 @@
 //! A result is read, or given up.
-ghost use Rattle.std.specs.Prelude.{◌≡◌, Bool, IfErr};
+ghost use Rattle.std.specs.Prelude.{◌≡◌, ◌≤◌, Bool, IfErr, length};
 ghost use Rattle.host.specs.Talk.{Areas, sight, areas};
 ghost use Rattle.process.specs.Given.{have_room};
 ghost use Rattle.rules.specs.Calls.{read, give_up};
 ghost use Rattle.rules.specs.Promises.{IsStep};
-ghost use Rattle.driver.specs.Answers.{was_read, given_up, HandsBack};
+ghost use Rattle.driver.specs.Answers.{was_read, read_length, given_up, HandsBack};
 
 use crate::inner;
 use crate::read::{Error, Read, Refused, Unread};
@@ -21,6 +21,7 @@ impl State {
         status: &mut [u8],
         token: FilterResult,
     ) -> Result<Read, Error>
+        ensures bound { read_length result ≤ length work.new }
         ensures step { IsStep H.capacity (read token.process) (have_room work.old status.old) self.old.records.places (sight (H.log host.old) (H.world host.old)) (areas work.old status.old) (was_read work.new result) self.new.records.places (sight (H.log host.new) (H.world host.new)) (areas work.new status.new) }
         ensures back { HandsBack token.process result }
     {

@@ -14,8 +14,9 @@ ghost use Rattle.client.specs.Results.{piece_of, output_length, read_piece};
 ghost use Rattle.records.specs.Contexts.{is_context};
 ghost use Rattle.records.specs.Limits.{is_path};
 ghost use Rattle.records.specs.declared.context.Delay.{Delay as DelayOf};
-ghost use Rattle.rules.specs.Steps.{exchange, request_for, asked_lines, greeting, line_if};
+ghost use Rattle.rules.specs.Steps.{exchange, request_for, asked_lines, greeting, line_if, digits_of};
 ghost use Rattle.driver.specs.Asking.{asked_of};
+ghost use Rattle.driver.specs.Knowing.{known_lines};
 
 use client::inner;
 use client::invoke::Meta;
@@ -31,6 +32,7 @@ use host::peer::Peer;
 use process::area::StatusArea;
 use process::status::Status;
 use records::context::Context;
+use records::id::ObjectId;
 use records::names::{desired, prefix};
 use records::operation::Operation;
 use slices::rows::Rows;
@@ -82,8 +84,9 @@ fn invoke<H: Host>(
 fn add<'a>(rows: &mut Rows<'_, Meta<'a>>, key: &'a [u8], value: Option<&'a [u8]>)
     requires { rows.old.count < length rows.old.rows.now }
     ensures lender { rows.new.rows.ghost_name ≡ rows.old.rows.ghost_name }
+    ensures space { length rows.new.rows.now ≡ length rows.old.rows.now }
     ensures count { rows.new.count ≤ rows.old.count + 1 }
-    ensures lines { map meta_line (take rows.new.count rows.new.rows.now) ≡ map meta_line (take rows.old.count rows.old.rows.now) ++ line_if key.now (option_map (λ x. x.now) value) }
+    ensures lines { map meta_line (take rows.new.count rows.new.rows.now) ≡ map meta_line (take rows.old.count rows.old.rows.now) ++ line_if key.now (option_map (λ x. x.now) value.entry) }
 {
     if let Some(value) = value {
         match rows.push(Meta { key, value }) {
@@ -91,6 +94,65 @@ fn add<'a>(rows: &mut Rows<'_, Meta<'a>>, key: &'a [u8], value: Option<&'a [u8]>
             Err(_) => unreachable!(),
         }
     }
+}
+
+/// The digits of an id, if there is one.
+fn digits(id: Option<ObjectId>) -> Option<[u8; 40]>
+    ensures { result ≡ digits_of id }
+{
+    Some(id?.to_hex())
+}
+
+/// Digits as a line takes them.
+fn borrowed(digits: &Option<[u8; 40]>) -> Option<&[u8]>
+    ensures { option_map (λ x. x.now) result ≡ digits.now }
+{
+    digits.as_ref().map(|digits| &digits[..])
+}
+
+/// What a process is told of a content, with the digits of its ids.
+// Digits are owned, so that what its lines borrow all lives as long.
+#[derive(Clone, Copy)]
+struct Known<'a> {
+    context: &'a Context<'a>,
+    treeish: Option<[u8; 40]>,
+    blob: Option<[u8; 40]>,
+    delays: bool,
+}
+
+/// What is known is told, and the content is given; the status that the process answers.
+fn tell<'a, H: Host>(
+    host: &mut H,
+    process: usize,
+    work: &mut [u8],
+    status: &mut [u8],
+    operation: Operation,
+    known: &'a Known<'a>,
+    content: &[u8],
+) -> Result<Status, LineFault>
+    requires room { have_room work.old status.old ≡ true }
+    requires sendable { all_sendable (request_for operation known.now.context.now.rela_path.now (known_lines known.now)) ≡ true }
+    ensures { Talks (exchange (request_for operation known.now.context.now.rela_path.now (known_lines known.now)) content.now) (sight (H.log host.old) (H.world host.old)) process (areas work.old status.old) result (sight (H.log host.new) (H.world host.new)) (areas work.new status.new) }
+{
+    let mut space = [Meta {
+        key: b"",
+        value: b"",
+    }; 5];
+    let mut rows = Rows::new(&mut space);
+    add(&mut rows, b"pathname", Some(known.context.rela_path));
+    add(&mut rows, b"ref", known.context.ref_name);
+    add(&mut rows, b"treeish", borrowed(&known.treeish));
+    add(&mut rows, b"blob", borrowed(&known.blob));
+    add(&mut rows, b"can-delay", known.delays.then_some(b"1"));
+    invoke(
+        host,
+        process,
+        work,
+        status,
+        operation.as_bytes(),
+        rows.as_slice(),
+        content,
+    )
 }
 
 /// What is asked of a content is told, and the content is given; the status that the process answers.
@@ -108,31 +170,13 @@ pub(crate) fn ask<H: Host>(
     requires within { is_context context.now ≡ true }
     ensures { (delay : DelayOf) → Talks (exchange (request_for operation context.now.rela_path.now (asked_lines (asked_of context.now delay content.now) delays)) content.now) (sight (H.log host.old) (H.world host.old)) process (areas work.old status.old) result (sight (H.log host.new) (H.world host.new)) (areas work.new status.new) }
 {
-    let treeish = context.treeish.map(|id| id.to_hex());
-    let blob = context.blob.map(|id| id.to_hex());
-    let mut space = [Meta {
-        key: b"",
-        value: b"",
-    }; 5];
-    let mut rows = Rows::new(&mut space);
-    add(&mut rows, b"pathname", Some(context.rela_path));
-    add(&mut rows, b"ref", context.ref_name);
-    add(
-        &mut rows,
-        b"treeish",
-        treeish.as_ref().map(|digits| &digits[..]),
-    );
-    add(&mut rows, b"blob", blob.as_ref().map(|digits| &digits[..]));
-    add(&mut rows, b"can-delay", delays.then_some(b"1"));
-    invoke(
-        host,
-        process,
-        work,
-        status,
-        operation.as_bytes(),
-        rows.as_slice(),
-        content,
-    )
+    let known = Known {
+        context,
+        treeish: digits(context.treeish),
+        blob: digits(context.blob),
+        delays,
+    };
+    tell(host, process, work, status, operation, &known, content)
 }
 
 /// What was delayed is asked for by its path; the status that the process answers.

@@ -1,4 +1,8 @@
 //! What the calls of a table answer, as one value.
+ghost use Rattle.std.specs.Prelude.{◌≡◌};
+ghost use Rattle.rules.specs.Answers.{answer_number};
+ghost use Rattle.exchange.specs.Values.{answer_of};
+
 use driver::list::Paths;
 use driver::misuse::Misuse;
 use handshake::protocol::Protocol;
@@ -36,7 +40,9 @@ pub enum Answer {
 
 impl Answer {
     /// The number of a refusal.
-    pub fn number(self) -> Option<u8> {
+    pub fn number(self) -> Option<u8>
+        ensures { result ≡ answer_number (answer_of self) }
+    {
         match self {
             Answer::Passed
             | Answer::Delayed

@@ -1,4 +1,6 @@
 //! The results that an exchange left open.
+ghost use Rattle.std.specs.Prelude.{◌≡◌, ◌≤◌, length};
+
 use driver::inner::result_of;
 use driver::result::FilterResult;
 use driver::state::State;
@@ -8,6 +10,8 @@ use driver::state::State;
 pub struct OpenResults {
     processes: [usize; 8],
     count: usize,
+    ghost room: { length processes ≡ 8 },
+    ghost fits: { count ≤ 8 },
 }
 
 /// One of the open results, and the others; or none is left.
@@ -17,8 +21,12 @@ pub enum Next {
 }
 
 impl OpenResults {
+    ghost use Rattle.exchange.specs.Opens.{read_from, open_processes, TakesOut};
+
     /// The results that a table's records are reading.
-    pub(crate) fn of(table: &State) -> OpenResults {
+    pub(crate) fn of(table: &State) -> OpenResults
+        ensures { open_processes result ≡ read_from table.now.records.places }
+    {
         let mut processes = [0usize; 8];
         let mut count = 0;
         for place in 0..8 {
@@ -32,14 +40,19 @@ impl OpenResults {
         OpenResults { processes, count }
     }
 
-    pub fn len(&self) -> usize {
+    /// How many there are.
+    pub fn len(&self) -> usize
+        ensures { result ≡ length (open_processes self.now) }
+    {
         self.count
     }
 
     /// Takes one out.
-    pub fn next(self) -> Next {
+    pub fn next(self) -> Next
+        ensures { TakesOut self result }
+    {
         let OpenResults { processes, count } = self;
-        if count == 0 || count > 8 {
+        if count == 0 {
             return Next::None;
         }
         let process = processes[count - 1];

@@ -1,4 +1,13 @@
 //! A list of calls, worked off from an empty table.
+ghost use Rattle.std.specs.Prelude.{◌≡◌, ◌≤◌, ℕ, List, length};
+ghost use Rattle.host.specs.Talk.{sight, areas};
+ghost use Rattle.process.specs.Given.{have_room};
+ghost use Rattle.rules.specs.Promises.{IsStep};
+ghost use Rattle.driver.specs.Answers.{init_answer, applied, fetched, paths_listed, piece_read, payload_length, done_or};
+ghost use Rattle.exchange.specs.Opens.{read_from, open_processes};
+ghost use Rattle.exchange.specs.Runs.{IsRun};
+ghost use Rattle.exchange.specs.Values.{call_of, answer_in, answer_of, blanked};
+
 use crate::answer::Answer;
 use crate::call::{Call, Entry};
 use crate::observer::Observer;
@@ -13,7 +22,9 @@ use driver::{fetch, init, inner, list};
 use handshake::protocol::Refusal;
 use host::host::Host;
 
-fn init_answer(why: init::Error) -> Answer {
+fn init_answer(why: init::Error) -> Answer
+    ensures { (area : List ℕ) → answer_in area result ≡ init_answer why }
+{
     match why {
         init::Error::SpawnCommand(_) => Answer::NotStarted,
         init::Error::ProcessHandshake(Refusal::Line(fault)) => Answer::Fault(fault),
@@ -22,7 +33,9 @@ fn init_answer(why: init::Error) -> Answer {
 }
 
 /// A result is kept by the number of its process.
-fn applied(answer: Result<Applied, apply::Error>) -> Answer {
+fn applied(answer: Result<Applied, apply::Error>) -> Answer
+    ensures { (area : List ℕ) → answer_in area result ≡ applied answer }
+{
     match answer {
         Ok(Applied::Passed) => Answer::Passed,
         Ok(Applied::Delayed) => Answer::Delayed,
@@ -35,7 +48,9 @@ fn applied(answer: Result<Applied, apply::Error>) -> Answer {
     }
 }
 
-fn fetched(answer: Result<FilterResult, fetch::Error>) -> Answer {
+fn fetched(answer: Result<FilterResult, fetch::Error>) -> Answer
+    ensures { (area : List ℕ) → answer_in area result ≡ fetched answer }
+{
     match answer {
         Ok(token) => Answer::Result(inner::number_of(token)),
         Err(fetch::Error::Misuse(why)) => Answer::Misused(why),
@@ -44,7 +59,9 @@ fn fetched(answer: Result<FilterResult, fetch::Error>) -> Answer {
     }
 }
 
-fn listed(answer: Result<list::Paths, list::Error>) -> Answer {
+fn listed(answer: Result<list::Paths, list::Error>) -> Answer
+    ensures { (area : List ℕ) → answer_in area result ≡ paths_listed answer }
+{
     match answer {
         Ok(paths) => Answer::Paths(paths),
         Err(list::Error::Misuse(why)) => Answer::Misused(why),
@@ -54,7 +71,10 @@ fn listed(answer: Result<list::Paths, list::Error>) -> Answer {
     }
 }
 
-fn was_read(answer: Result<Option<usize>, Unread>) -> Answer {
+fn was_read(answer: Result<Option<usize>, Unread>) -> Answer
+    ensures value { (area : List ℕ) → answer_in area result ≡ piece_read area answer }
+    ensures told { (area : List ℕ) → payload_length answer ≤ length area → blanked (answer_in area result) ≡ answer_of result }
+{
     match answer {
         Ok(Some(n)) => Answer::Payload(n),
         Ok(None) => Answer::Finished,
@@ -64,7 +84,9 @@ fn was_read(answer: Result<Option<usize>, Unread>) -> Answer {
     }
 }
 
-fn done_or(answer: Result<(), Misuse>) -> Answer {
+fn done_or(answer: Result<(), Misuse>) -> Answer
+    ensures { (area : List ℕ) → answer_in area result ≡ done_or answer }
+{
     match answer {
         Ok(()) => Answer::Done,
         Err(why) => Answer::Misused(why),
@@ -81,7 +103,10 @@ fn make<H: Host>(
     rows: &mut [PathRow],
     text: &mut [u8],
     call: Call<'_>,
-) -> Answer {
+) -> Answer
+    ensures step { IsStep H.capacity (call_of (length rows.old) (length text.old) call.entry) (have_room work.old status.old) table.old.records.places (sight (H.log host.old) (H.world host.old)) (areas work.old status.old) (answer_in work.new result) table.new.records.places (sight (H.log host.new) (H.world host.new)) (areas work.new status.new) }
+    ensures told { blanked (answer_in work.new result) ≡ answer_of result }
+{
     match call {
         Call::Apply(key, operation, asked) => applied(table.apply_delayed(
             host,
@@ -118,7 +143,10 @@ pub fn run<H: Host, O: Observer<H>>(
     text: &mut [u8],
     exchange: &mut [Entry<'_>],
     observer: &mut O,
-) -> Left {
+) -> Left
+    ensures runs { IsRun H.capacity (length rows.old) (length text.old) exchange.old (sight (H.log host.old) (H.world host.old)) exchange.new result.table.records.places (sight (H.log host.new) (H.world host.new)) }
+    ensures open { open_processes result.open ≡ read_from result.table.records.places }
+{
     let mut table = State::new();
     for i in 0..exchange.len() {
         let call = exchange[i].call;

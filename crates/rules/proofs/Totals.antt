@@ -101,7 +101,7 @@ one_of p (Some s ∷ ps) h = go (s.process == p) refl h (λ h'. one_of p ps h')
 
 -- Changes
 
-without_none : (k : Key) (ps : List Place) → total (of_key k) ps ≡ 0 → without ps k ≡ ps
+pub without_none : (k : Key) (ps : List Place) → total (of_key k) ps ≡ 0 → without ps k ≡ ps
 without_none k [] e = refl
 without_none k (None ∷ ps) e = ap (λ qs. None ∷ qs) (without_none k ps e)
 without_none k (Some s ∷ ps) e = go (same_key s.key k) refl (λ z. without_none k ps z)

@@ -14,8 +14,8 @@ pub loop-place-preserved : goal.loop-place-preserved
 loop-place-preserved g c =
     let eight = c.args.self.now.records.room in
     elim c.match-get.branch [
-      in-Some w ↦ rw w.host-is (closes_one c.loop-place.place c.args.self.now.records.places (omega arith) c.loop-place.invariant w.in-Some.«record» (search rules) w.end.ensures.goes w.end.ensures.logs)
-    | in_default w ↦ rw w.host-is (closes_no c.loop-place.place c.args.self.now.records.places (omega arith) c.loop-place.invariant (search rules))
+      | in-Some w ↦ rw w.host-is (closes_one c.loop-place.place c.args.self.now.records.places (omega arith) c.loop-place.invariant w.in-Some.«record» (search rules) w.end.ensures.goes w.end.ensures.logs)
+      | in_default w ↦ rw w.host-is (closes_no c.loop-place.place c.args.self.now.records.places (omega arith) c.loop-place.invariant (search rules))
     ]
 
 pub returns : goal.returns
