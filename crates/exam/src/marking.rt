@@ -210,13 +210,13 @@ fn print_marked(
 }
 
 /// Gives up the results that an exchange left open. A result that no record has any more is let go.
-fn give_up_all<H: Host>(table: &mut State, host: &mut H, open: OpenResults) {
-    let mut open = open;
+fn give_up_all<H: Host>(table: &mut State, host: &mut H, results: OpenResults) {
+    let mut left = results;
     loop {
-        match open.next() {
-            Next::Open(result, others) => {
-                open = others;
-                if let Err(refused) = table.give_up(host, result) {
+        match left.next() {
+            Next::Open(token, others) => {
+                left = others;
+                if let Err(refused) = table.give_up(host, token) {
                     let Refused { why: _, back } = refused;
                     let _process = number_of(back);
                 }

@@ -1,4 +1,6 @@
 //! A layer over any host that tells with which process was talked.
+ghost use Rattle.std.specs.Prelude.{◌≡◌};
+
 use host::fault::{Fault, NotStarted};
 use host::host::{Host, How};
 
