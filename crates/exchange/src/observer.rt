@@ -5,3 +5,11 @@ use crate::answer::Answer;
 pub trait Observer<H> {
     fn look(&mut self, host: &H, answer: Answer);
 }
+
+/// Nobody looks.
+#[derive(Drop)]
+pub struct Nobody;
+
+impl<H> Observer<H> for Nobody {
+    fn look(&mut self, _host: &H, _answer: Answer) {}
+}

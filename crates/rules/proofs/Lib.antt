@@ -10,7 +10,6 @@ pub mod Standings
 pub mod Tellings
 pub mod Runners
 pub mod Keying
-pub mod Examples
 pub mod Talking
 pub mod Making
 pub mod Starting

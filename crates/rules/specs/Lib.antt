@@ -6,5 +6,4 @@ pub mod Stories
 pub mod Lives
 pub mod Rules
 pub mod Key
-pub mod Examples
 pub mod Promises

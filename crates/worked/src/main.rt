@@ -1,11 +1,15 @@
 //! Runs the worked cases, and some more at the limits. Those of the table are proved over the definitions too.
 #![tactic(auto)]
 
+ghost use Rattle.worked.specs.Lives.{ExamplesStand};
 ghost use Rattle.worked.specs.Worked.{Worked};
+
+mod lives;
 
 use client::client::Client;
 use host::fault::{Fault, Snag};
 use host::host::Host;
+use lives::{aborted, delayed};
 use packetline::line::Line;
 use packetline::packet::Packet;
 use packetline::{decode, encode, metadata, text};
@@ -18,9 +22,10 @@ use slices::refusal::Numbered;
 use slices::rows::Rows;
 use std::io;
 
-/// The table of worked cases stands.
+/// The table of worked cases stands, and so do two lives of a table.
 fn table_stands() -> bool
-    ensures { Worked }
+    ensures cases { Worked }
+    ensures lives { ExamplesStand }
 {
     true
 }
@@ -281,5 +286,7 @@ fn main(rt: HostRuntime) -> io::Result<()> {
     packets(&rt)?;
     lines(&rt)?;
     names(&rt)?;
-    rows(&rt)
+    rows(&rt)?;
+    delayed(&rt)?;
+    aborted(&rt)
 }

@@ -18,7 +18,7 @@ use Rattle.rules.specs.Answers.{passed, delayed, result, payload, finished, path
 use Rattle.rules.specs.Stories.{all_given, all_sent, lists, exchanges, results, open_count, aborted, stray_applies}
 use Rattle.rules.specs.Lives.{run, answers_of, is_open}
 use Rattle.rules.specs.Key.{seen_calls, runner, key}
-use Rattle.rules.specs.Examples.{lfs, welcome, playing, by, empty, asks, delaying, delayed_calls, aborting, aborted_calls, ExamplesStand}
+use Rattle.worked.specs.Lives.{lfs, welcome, playing, by, empty, asks, delaying, delayed_calls, aborting, aborted_calls, ExamplesStand}
 
 delayed_answers : answers_of 16 delayed_calls empty ≡ delayed ∷ paths (record { named = 1; stored = 1; full = false }) ∷ result 0 ∷ payload (codes "hello") ∷ finished ∷ []
 unfolding lfs welcome playing by empty asks delaying delayed_calls aborting aborted_calls desired_names front decode after_prefix utf8 trim_end is_number encode chars gather parts with_bit without_bit digits

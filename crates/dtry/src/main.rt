@@ -1,4 +1,0 @@
-//! compile only
-#![tactic(auto)]
-use exchange::call::Call;
-fn main() {}
