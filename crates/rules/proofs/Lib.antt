@@ -14,5 +14,6 @@ pub mod Talking
 pub mod Making
 pub mod Starting
 pub mod Living
+pub mod Onward
 pub mod Refusing
 pub mod Closing

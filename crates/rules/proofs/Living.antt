@@ -8,10 +8,9 @@ use Rattle.records.specs.Places.{Place}
 use Rattle.rules.specs.Calls.{Call, Turn}
 use Rattle.rules.specs.Answers.{Answer}
 use Rattle.rules.specs.Steps.{State, state, Deed, starts, talks, ends, Outcome, step}
-use Rattle.rules.specs.Lives.{Life, turn, run, answers_of, deeds_of, first_life}
+use Rattle.rules.specs.Lives.{Life, turn, run, deeds_of, first_life}
 use Rattle.rules.specs.Promises.{Done, IsStep, IsLife}
-use Rattle.rules.proofs.Standings.{rules_stand, books_stand}
-use Rattle.rules.proofs.Keying.{key_stands}
+use Rattle.rules.proofs.Onward.{run_push, answers_push, stands}
 
 done_append : (ds es : List Deed) (m n : List Act) → Done ds m → Done es n → Done (ds ++ es) (m ++ n)
 done_append [] es m n h k = subst (Done es) (ap (λ l. l ++ n) (sym h)) k
@@ -20,14 +19,6 @@ done_append (starts command None ∷ ds) es m n h k = (h.0, (h.1.0 ++ n, ap (λ 
 done_append (talks p xs bytes ∷ ds) es m n h k =
     (h.0, (h.1.0 ++ n, ap (λ l. l ++ n) h.1.1 ∙ append_assoc h.0 h.1.0 n, h.1.2, done_append ds es h.1.0 n h.1.3 k))
 done_append (ends p how ∷ ds) es m n h k = (h.0 ++ n, ap (λ l. l ++ n) h.1, done_append ds es h.0 n h.2 k)
-
-run_push : (capacity : ℕ) (ts : List Turn) (t : Turn) (l : Life) → run capacity (ts ++ t ∷ []) l ≡ turn capacity t (run capacity ts l)
-run_push capacity [] t l = refl
-run_push capacity (u ∷ ts) t l = run_push capacity ts t (turn capacity u l)
-
-answers_push : (capacity : ℕ) (ts : List Turn) (t : Turn) (l : Life) → answers_of capacity (ts ++ t ∷ []) l ≡ answers_of capacity ts l ++ (step capacity t (run capacity ts l).now).answer ∷ []
-answers_push capacity [] t l = refl
-answers_push capacity (u ∷ ts) t l = ap (λ rs. (step capacity u l.now).answer ∷ rs) (answers_push capacity ts t (turn capacity u l))
 
 deeds_push : (capacity : ℕ) (ts : List Turn) (t : Turn) (l : Life) → deeds_of capacity (ts ++ t ∷ []) l ≡ (step capacity t (run capacity ts l).now).deeds ++ deeds_of capacity ts l
 deeds_push capacity [] t l = sym (append-nil (step capacity t l.now).deeds)
@@ -44,9 +35,7 @@ life_start capacity w = record {
   acts = [];
   done = refl;
   grows = grows_none w.log;
-  rules = λ none. rules_stand capacity (first_life w.world) (record { empty = refl; none_open = none; unwritten = λ p. refl; none_came = λ p. refl }) [];
-  books = λ none. books_stand capacity (first_life w.world) (record { empty = refl; none_open = none; unwritten = λ p. refl; none_came = λ p. refl }) [];
-  key = λ none. key_stands capacity (first_life w.world) (record { empty = refl; none_open = none; unwritten = λ p. refl; none_came = λ p. refl }) [];
+  stands = λ none. stands capacity (first_life w.world) (record { empty = refl; none_open = none; unwritten = λ p. refl; none_came = λ p. refl }) [];
 }
 
 pub life_more : {capacity : ℕ} {calls : List Call} {w : Sight} {rs : List Answer} {table₁ : List Place} {w₁ : Sight} {c : Call} {room : Bool} {a : Areas} {r : Answer} {table₂ : List Place} {w₂ : Sight} {a₂ : Areas}
@@ -63,7 +52,5 @@ life_more {capacity} {calls} {w} {rs} {table₁} {w₁} {c} {room} {a} {r} {tabl
       done = subst (λ ds. Done ds (s.acts ++ l.acts)) (sym (deeds_push capacity l.turns s.turn (first_life w.world) ∙ ap (λ (x : Outcome). x.deeds ++ deeds_of capacity l.turns (first_life w.world)) o))
           (done_append (step capacity s.turn (state table₁ w₁.world)).deeds (deeds_of capacity l.turns (first_life w.world)) s.acts l.acts s.done l.done);
       grows = grows_then w.log w₁.log w₂.log l.acts s.acts l.grows s.grows;
-      rules = λ none. rules_stand capacity (first_life w.world) (record { empty = refl; none_open = none; unwritten = λ p. refl; none_came = λ p. refl }) (l.turns ++ s.turn ∷ []);
-      books = λ none. books_stand capacity (first_life w.world) (record { empty = refl; none_open = none; unwritten = λ p. refl; none_came = λ p. refl }) (l.turns ++ s.turn ∷ []);
-      key = λ none. key_stands capacity (first_life w.world) (record { empty = refl; none_open = none; unwritten = λ p. refl; none_came = λ p. refl }) (l.turns ++ s.turn ∷ []);
+      stands = λ none. stands capacity (first_life w.world) (record { empty = refl; none_open = none; unwritten = λ p. refl; none_came = λ p. refl }) (l.turns ++ s.turn ∷ []);
     }

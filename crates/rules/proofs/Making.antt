@@ -16,6 +16,7 @@ use Rattle.rules.specs.Calls.{Call, is_within, needs_areas, Turn}
 use Rattle.rules.specs.Answers.{Answer, fault}
 use Rattle.rules.specs.Steps.{Fate, stays, leaves, Verdict, verdict, State, state, Outcome, refuse, ended_as, ended, its_seat, seated, settle_by, settle, conclude, line_to, fetch_at, list_at, read_at, fetch_from, list_from, read_from, act, step}
 use Rattle.rules.specs.Promises.{Done, passes, IsStep}
+use Rattle.rules.proofs.Onward.{onward}
 use Rattle.rules.proofs.Talking.{talk_later, talk_world}
 
 -- The checks before a call
@@ -52,7 +53,7 @@ ended_to w p w' d = ended_by w p w' (process w p) refl d
 abbrev pub is_step_by : {capacity : ℕ} {c : Call} {room : Bool} {table : List Place} {w : Sight} {a : Areas} {r : Answer} {table' : List Place} {w' : Sight} {a' : Areas} (t : Turn)
     → t.call ≡ c → t.has_room ≡ room → (o : Outcome) → step capacity t (state table w.world) ≡ o → o.answer ≡ r → o.after ≡ state table' w'.world → a' ≡ lay (passes o.deeds) a
     → (acts : List Act) → Done o.deeds acts → Grows w.log acts w'.log → IsStep capacity c room table w a r table' w' a'
-is_step_by {a = a} t is room o e answers reaches laid acts done grows = record {
+is_step_by {capacity = capacity} {table = table} {w = w} {a = a} {r = r} {table' = table'} {w' = w'} t is room o e answers reaches laid acts done grows = record {
   turn = t;
   is_of = is;
   room_is = room;
@@ -62,6 +63,7 @@ is_step_by {a = a} t is room o e answers reaches laid acts done grows = record {
   acts = acts;
   done = subst (λ (x : Outcome). Done x.deeds acts) (sym e) done;
   grows = grows;
+  goes_on = onward capacity table w.world t r table' w'.world (ap (λ (x : Outcome). x.answer) e ∙ answers) (ap (λ (x : Outcome). x.after) e ∙ reaches);
 }
 
 -- A talk with a record's process

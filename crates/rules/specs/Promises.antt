@@ -4,11 +4,12 @@ use Rattle.std.specs.List.{count_by}
 use Rattle.host.specs.declared.fault.NotStarted.{NotStarted}
 use Rattle.host.specs.Acts.{Act, starting, ending, Grows}
 use Rattle.host.specs.Talk.{Event, Areas, lay, Acted, Sight}
+use Rattle.host.specs.Worlds.{World}
 use Rattle.records.specs.Places.{Place}
 use Rattle.rules.specs.Calls.{Call, Turn}
 use Rattle.rules.specs.Answers.{Answer}
 use Rattle.rules.specs.Steps.{state, Deed, starts, talks, ends, step}
-use Rattle.rules.specs.Lives.{run, answers_of, deeds_of, is_open, first_life}
+use Rattle.rules.specs.Lives.{Life, run, answers_of, deeds_of, is_open, first_life, Begins}
 use Rattle.rules.specs.Rules.{Rules, Honest}
 use Rattle.rules.specs.Key.{KeyFits}
 
@@ -27,6 +28,18 @@ passes (starts command n ∷ ds) = passes ds
 passes (talks p es bytes ∷ ds) = es ++ passes ds
 passes (ends p how ∷ ds) = passes ds
 
+-- What stands at the end of a life of these turns: the three rules; the books are honest; and the key tells which processes run.
+pub record Stands (capacity : ℕ) (turns : List Turn) (l : Life) : Type 0 where
+  pub rules : Rules (run capacity turns l)
+  pub books : Honest (run capacity turns l)
+  pub key : KeyFits capacity turns l
+
+-- A life of these turns goes on by one more: that answers r and leads to this table and this host, where all of this stands.
+pub record GoesOn (capacity : ℕ) (l : Life) (turns : List Turn) (t : Turn) (r : Answer) (table' : List Place) (w' : World) : Type 0 where
+  pub answers : answers_of capacity (turns ++ t ∷ []) l ≡ answers_of capacity turns l ++ r ∷ []
+  pub reaches : (run capacity (turns ++ t ∷ []) l).now ≡ state table' w'
+  pub stands : Stands capacity (turns ++ t ∷ []) l
+
 -- A call answered r: there is a turn of this call, with areas as long as these are, whose step gives this answer, this table and this host, lays the areas
 -- as the overlay rule leaves them, and did what the host's log, if it keeps one, has grown by. So any life that reached the table and the host before
 -- goes on, by this turn, to one that reached them after.
@@ -40,10 +53,11 @@ pub record IsStep (capacity : ℕ) (c : Call) (has_room : Bool) (table : List Pl
   pub acts : List Act
   pub done : Done (step capacity turn (state table w.world)).deeds acts
   pub grows : Grows w.log acts w'.log
+  pub goes_on : (l : Life) → Begins l → (turns : List Turn) → (run capacity turns l).now ≡ state table w.world → GoesOn capacity l turns turn r table' w'.world
 
 -- Calls were worked off on an empty table, one behind the other, and answered so: there are turns of exactly these calls with exactly these answers that
 -- lead to exactly this table and this host, and their deeds are what the host's log, if it keeps one, has grown by. Where no process was open at the
--- beginning the rules stand there, the books are honest, and the key tells which processes run.
+-- beginning all of this stands there.
 pub record IsLife (capacity : ℕ) (calls : List Call) (w : Sight) (rs : List Answer) (table' : List Place) (w' : Sight) : Type 0 where
   pub turns : List Turn
   pub are : map (λ t. t.call) turns ≡ calls
@@ -52,6 +66,4 @@ pub record IsLife (capacity : ℕ) (calls : List Call) (w : Sight) (rs : List An
   pub acts : List Act
   pub done : Done (deeds_of capacity turns (first_life w.world)) acts
   pub grows : Grows w.log acts w'.log
-  pub rules : count_by is_open w.world.procs ≡ 0 → Rules (run capacity turns (first_life w.world))
-  pub books : count_by is_open w.world.procs ≡ 0 → Honest (run capacity turns (first_life w.world))
-  pub key : count_by is_open w.world.procs ≡ 0 → KeyFits capacity turns (first_life w.world)
+  pub stands : count_by is_open w.world.procs ≡ 0 → Stands capacity turns (first_life w.world)
