@@ -1,2 +1,6 @@
 mod Opens
 mod Running
+mod Characters
+mod Keying
+mod Reading
+mod Runners

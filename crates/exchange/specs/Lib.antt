@@ -1,3 +1,5 @@
 pub mod Values
 pub mod Opens
 pub mod Runs
+pub mod Tallies
+pub mod Watching
