@@ -3,6 +3,7 @@ use crate::asking::Named;
 use crate::cast::Claim;
 use crate::marking::{Marked, Standing};
 use driver::state::State;
+use exchange::tally::Flushes;
 use recording::show::Escaped;
 use records::names::desired;
 use records::record::Record;
@@ -80,39 +81,11 @@ fn running_lines(heap: Global, standings: &[Standing]) -> Result<String, AllocEr
     Ok(lines)
 }
 
-/// How many flushes a process that had no line fault has given, and how many it was sent.
-#[derive(Clone, Copy)]
-struct Flushes {
-    given: usize,
-    sent: usize,
-}
-
 /// The flushes of a process, as they were counted.
 fn counted(standing: &Standing) -> Flushes {
     Flushes {
         given: standing.listing.flushes_given(),
         sent: standing.listing.flushes_sent(),
-    }
-}
-
-/// The flushes of a process, by the rule. Sums stay at 2^64 - 1.
-fn ruled(standing: &Standing) -> Flushes {
-    let tally = standing.tally;
-    let lists = tally.lists;
-    let exchanges = tally.exchanges;
-    let results = tally.results;
-    let open = usize::from(tally.is_open);
-    let talks = exchanges.saturating_add(results).saturating_add(open);
-    Flushes {
-        given: lists
-            .saturating_mul(2)
-            .saturating_add(exchanges)
-            .saturating_add(results.saturating_mul(3))
-            .saturating_add(open)
-            .saturating_add(2),
-        sent: lists
-            .saturating_add(talks.saturating_mul(2))
-            .saturating_add(2),
     }
 }
 
@@ -130,7 +103,7 @@ fn flush_line(heap: Global, process: usize, standing: &Standing) -> Result<Strin
     if tally.is_faulted {
         line.push_str("exempt from the rule, since it had a line fault\n")?;
     } else {
-        let Flushes { given, sent } = ruled(standing);
+        let Flushes { given, sent } = tally.flushes();
         writeln!(line, "by the rule {given} given, {sent} sent")?;
     }
     Ok(line)
