@@ -39,9 +39,9 @@ fn desired(heap: Global, list: &[u8]) -> Result<Vec<Name>, Stopped> {
 
 /// Those of the names that a process named.
 #[derive(Clone, Copy)]
-struct Named<'a> {
-    capabilities: Capabilities,
-    names: &'a [Name],
+pub(crate) struct Named<'a> {
+    pub(crate) capabilities: Capabilities,
+    pub(crate) names: &'a [Name],
 }
 
 impl fmt::Display for Named<'_> {
@@ -71,26 +71,36 @@ fn meta(heap: Global, pairs: &[Pair]) -> Result<Vec<Meta<'_>>, AllocError> {
         .collect(heap)
 }
 
-/// A status, whose name lies at the front of the area, and whether it succeeds.
+/// A status, whose name lies at the front of the area.
 #[derive(Clone, Copy)]
-struct Told<'a> {
-    status: Status,
-    area: &'a [u8],
+pub(crate) struct Said<'a> {
+    pub(crate) status: Status,
+    pub(crate) area: &'a [u8],
 }
 
-impl fmt::Display for Told<'_> {
+impl fmt::Display for Said<'_> {
     fn fmt<W: fmt::Write>(&self, f: &mut fmt::Formatter<W>) -> fmt::Result {
         f.write_str("status ")?;
         match self.status {
-            Status::Previous => f.write_str("previous")?,
-            Status::Unset => f.write_str("unset")?,
-            Status::Named(Word::Success, _) => f.write_str("success")?,
+            Status::Previous => f.write_str("previous"),
+            Status::Unset => f.write_str("unset"),
+            Status::Named(Word::Success, _) => f.write_str("success"),
             Status::Named(_, len) => {
                 let front = &self.area[0..len.min(MAX_STATUS_LEN).min(self.area.len())];
-                write!(f, "{}", Quoted { front, whole: len })?;
+                write!(f, "{}", Quoted { front, whole: len })
             }
         }
-        f.write_str(if self.status.is_success() {
+    }
+}
+
+/// A status, and whether it succeeds.
+#[derive(Clone, Copy)]
+struct Told<'a>(Said<'a>);
+
+impl fmt::Display for Told<'_> {
+    fn fmt<W: fmt::Write>(&self, f: &mut fmt::Formatter<W>) -> fmt::Result {
+        write!(f, "{}", self.0)?;
+        f.write_str(if self.0.status.is_success() {
             ", succeeds"
         } else {
             ", does not succeed"
@@ -107,10 +117,10 @@ fn path_at(text: &[u8], row: PathRow) -> &[u8] {
 impl<H: Host> Stage<H> {
     /// A status, whose name lies in the status area.
     fn told(&self, status: Status) -> Told<'_> {
-        Told {
+        Told(Said {
             status,
             area: &self.status,
-        }
+        })
     }
 
     fn handshake(

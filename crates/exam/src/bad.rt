@@ -17,6 +17,10 @@ pub(crate) enum Bad {
     OutsideLimits,
     NoVersions,
     ListTooLarge,
+    NoKey,
+    NoId,
+    Mixed,
+    ClaimedTwice,
     // Not a Failure<Bad>: that type is recording's, so what converts to it could not stand here.
     OutOfMemory,
 }
@@ -33,6 +37,10 @@ impl fmt::Display for Bad {
             Bad::OutsideLimits => "a payload has 1 to 65516 bytes",
             Bad::NoVersions => "its versions are not numbers parted by commas",
             Bad::ListTooLarge => "a listing has at most 65536 rows and 65536 bytes of room",
+            Bad::NoKey => "a key has 1 to 128 bytes",
+            Bad::NoId => "an id is 40 lower-case hexadecimal digits",
+            Bad::Mixed => "a sheet makes the calls of a table, or others, and not both",
+            Bad::ClaimedTwice => "a sheet makes one claim",
             Bad::OutOfMemory => "there is no memory for it",
         })
     }

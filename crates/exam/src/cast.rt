@@ -1,6 +1,7 @@
 //! A sheet, read whole before anything is played.
 use crate::bad::Bad;
 use crate::sheet::{Call, Entry, What, read_entry};
+use crate::table_calls::TableCall;
 use host::fault::{Fault, Snag};
 use packetline::encode::line_to_area;
 use scripts::script::{Part, Row};
@@ -94,11 +95,40 @@ pub(crate) struct Played<'a> {
     pub(crate) call: Call<'a>,
 }
 
-/// What a sheet is played over, and what is played.
+/// A line that makes a table's call, and the call.
+#[derive(Drop)]
+pub(crate) struct Asked<'a> {
+    pub(crate) line: &'a [u8],
+    pub(crate) call: TableCall,
+}
+
+/// A line that claims which processes run, and their numbers.
+#[derive(Drop)]
+pub(crate) struct Claim<'a> {
+    pub(crate) line: &'a [u8],
+    pub(crate) processes: Vec<usize>,
+}
+
+/// A table's exchange, and what is claimed of it.
+#[derive(Drop)]
+pub(crate) struct Exercise<'a> {
+    pub(crate) asked: Vec<Asked<'a>>,
+    pub(crate) claim: Option<Claim<'a>>,
+}
+
+impl Exercise<'_> {
+    /// Whether a line made a table's call, or claimed anything.
+    pub(crate) fn is_begun(&self) -> bool {
+        !self.asked.is_empty() || self.claim.is_some()
+    }
+}
+
+/// What a sheet is played over, and what is played: a table's exchange, or other calls.
 #[derive(Drop)]
 pub(crate) struct Sheet<'a> {
     pub(crate) scene: Scene,
     pub(crate) played: Vec<Played<'a>>,
+    pub(crate) exercise: Exercise<'a>,
 }
 
 impl<'a> Sheet<'a> {
@@ -106,15 +136,51 @@ impl<'a> Sheet<'a> {
         Sheet {
             scene: Scene::Script(Cast::new(heap)),
             played: Vec::new(heap),
+            exercise: Exercise {
+                asked: Vec::new(heap),
+                claim: None,
+            },
         }
     }
 
     /// Whether a line said something.
     fn is_begun(&self) -> bool {
         match &self.scene {
-            Scene::Script(cast) => !cast.rows.is_empty() || !self.played.is_empty(),
+            Scene::Script(cast) => {
+                !cast.rows.is_empty() || !self.played.is_empty() || self.exercise.is_begun()
+            }
             Scene::Mirror => true,
         }
+    }
+
+    /// Takes a call that is no table's.
+    fn add_call(&mut self, line: &'a [u8], call: Call<'a>) -> Result<(), Bad> {
+        if self.exercise.is_begun() {
+            return Err(Bad::Mixed);
+        }
+        self.played.push(Played { line, call })?;
+        Ok(())
+    }
+
+    /// Takes a table's call.
+    fn add_table_call(&mut self, line: &'a [u8], call: TableCall) -> Result<(), Bad> {
+        if !self.played.is_empty() {
+            return Err(Bad::Mixed);
+        }
+        self.exercise.asked.push(Asked { line, call })?;
+        Ok(())
+    }
+
+    /// Takes a claim.
+    fn add_claim(&mut self, line: &'a [u8], processes: Vec<usize>) -> Result<(), Bad> {
+        if !self.played.is_empty() {
+            return Err(Bad::Mixed);
+        }
+        if self.exercise.claim.is_some() {
+            return Err(Bad::ClaimedTwice);
+        }
+        self.exercise.claim = Some(Claim { line, processes });
+        Ok(())
     }
 
     /// Takes what a line says.
@@ -146,7 +212,9 @@ impl<'a> Sheet<'a> {
                 };
                 cast.give(&raw(heap, what)?)?;
             }
-            Entry::Call(call) => self.played.push(Played { line, call })?,
+            Entry::Call(call) => self.add_call(line, call)?,
+            Entry::TableCall(call) => self.add_table_call(line, call)?,
+            Entry::Claim(processes) => self.add_claim(line, processes)?,
         }
         Ok(())
     }

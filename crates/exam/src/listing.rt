@@ -113,6 +113,17 @@ impl Flow {
         Ok(number)
     }
 
+    /// What was not read as packets is left so: reading goes on with what comes next.
+    fn pass_over(&mut self) {
+        self.read = self.bytes.len();
+        self.bad = false;
+    }
+
+    /// How many flushes there are, from the first byte on.
+    fn flushes(&self) -> usize {
+        decode::count(self.bytes.as_slice()).flushes
+    }
+
     /// What was not read as packets.
     fn print_left(&self, rt: &HostRuntime, name: &str) -> anyhow::Result<()> {
         let read = self.read;
@@ -177,10 +188,26 @@ impl Listing {
         Ok(lines)
     }
 
+    /// A call begins: what it reads begins with a packet, whatever the calls before it left.
+    pub(crate) fn begin_call(&mut self) {
+        self.sent.pass_over();
+        self.given.pass_over();
+    }
+
+    /// How many flushes were sent, from the first byte on.
+    pub(crate) fn flushes_sent(&self) -> usize {
+        self.sent.flushes()
+    }
+
+    /// How many flushes were given, from the first byte on.
+    pub(crate) fn flushes_given(&self) -> usize {
+        self.given.flushes()
+    }
+
     /// The flushes each way, and what is left over.
     pub(crate) fn print_summary(&self, rt: &HostRuntime) -> anyhow::Result<()> {
-        let sent = decode::count(self.sent.bytes.as_slice()).flushes;
-        let given = decode::count(self.given.bytes.as_slice()).flushes;
+        let sent = self.flushes_sent();
+        let given = self.flushes_given();
         println!(rt; "flushes: {sent} sent, {given} given")?;
         self.sent.print_left(rt, "sent")?;
         self.given.print_left(rt, "given")

@@ -1,16 +1,22 @@
 //! `exam [FILE..]` prints the packets of recorded exchanges and plays sheets; `-`, or no file, is standard input.
 #![tactic(auto)]
 
+mod answers;
 mod asking;
 mod bad;
 mod cast;
 mod lines;
 mod listing;
+mod marking;
 mod playing;
 mod reading;
 mod refusals;
+mod seen;
 mod sheet;
 mod stage;
+mod summary;
+mod table_calls;
+mod watched;
 
 use lines::split_lines;
 use playing::play;

@@ -1,6 +1,7 @@
 //! A sheet played over a host.
-use crate::cast::{Played, Scene, Sheet};
+use crate::cast::{Exercise, Played, Scene, Sheet};
 use crate::listing::{Described, Listing};
+use crate::marking::mark;
 use crate::refusals::{Answer, Stopped, refused};
 use crate::sheet::{Call, PlainCall, What};
 use crate::stage::Stage;
@@ -74,7 +75,7 @@ impl<H: Host> Stage<H> {
 }
 
 /// Prints a line as it is written.
-fn print_line(rt: &HostRuntime, line: &[u8]) -> anyhow::Result<()> {
+pub(crate) fn print_line(rt: &HostRuntime, line: &[u8]) -> anyhow::Result<()> {
     match std::str::from_utf8(line) {
         Ok(text) => println!(rt; "{text}")?,
         Err(_) => println!(rt; "{}", Escaped(line))?,
@@ -131,12 +132,16 @@ fn print_open(rt: &HostRuntime, started: &[Option<Listing>]) -> anyhow::Result<(
     Ok(())
 }
 
-/// Plays lines over a host, and tells at the end which processes are open.
+/// Plays lines over a host, and tells at the end which processes are open; or marks a table's exchange over it.
 fn play_over<H: Host + Drop>(
     rt: &HostRuntime,
     host: H,
     played: Vec<Played<'_>>,
+    exercise: &Exercise<'_>,
 ) -> anyhow::Result<()> {
+    if exercise.is_begun() {
+        return mark(rt, host, exercise);
+    }
     let mut stage = Stage::new(rt.alloc(), host)?;
     for line in played {
         play_line(rt, &mut stage, line)?;
@@ -154,14 +159,18 @@ pub(crate) fn play(rt: &HostRuntime, lines: &[&[u8]]) -> anyhow::Result<()> {
             bail!("a line of the sheet is bad");
         }
     }
-    let Sheet { scene, played } = sheet;
+    let Sheet {
+        scene,
+        played,
+        exercise,
+    } = sheet;
     match scene {
         Scene::Script(cast) => {
             let Ok(script) = Script::new(&cast.bytes, &cast.rows) else {
                 bail!("a sheet has at most 16 processes");
             };
-            play_over(rt, script, played)
+            play_over(rt, script, played, &exercise)
         }
-        Scene::Mirror => play_over(rt, Mirror::new(), played),
+        Scene::Mirror => play_over(rt, Mirror::new(), played, &exercise),
     }
 }

@@ -6,7 +6,7 @@ use std::fmt;
 /// A refusal by its number.
 // By number, since docs/ANSWERS.md gives each its words, and the error types share them; none of the types is exam's.
 #[derive(Clone, Copy)]
-pub(crate) struct Refusal(u8);
+pub(crate) struct Refusal(pub(crate) u8);
 
 impl Refusal {
     /// What its number means.
@@ -14,6 +14,10 @@ impl Refusal {
         match self.0 {
             1 => "an area is too short",
             2 => "an argument is outside its limits",
+            3 => "no record has this key",
+            4 => "a result is being read",
+            5 => "no result of this process is being read",
+            6 => "no place is free for a record",
             7 => "no space left",
             10 => "the command cannot be started",
             11 => "closed: nothing more comes",
@@ -27,6 +31,9 @@ impl Refusal {
             32 => "a version that was not offered",
             33 => "no flush behind the version",
             34 => "a capability that is not desired",
+            35 => "a status that is no success",
+            36 => "delayed, which was not allowed",
+            37 => "a final status that is no success",
             _ => "a refusal",
         }
     }

@@ -1,6 +1,7 @@
 //! The lines of a sheet: processes, what they give, and calls.
 use crate::bad::Bad;
 use crate::lines::items;
+use crate::table_calls::{TableCall, read_claim, read_table_call};
 use host::fault::{Fault, Snag};
 use host::host::How;
 use packetline::encode::MAX_DATA_LEN;
@@ -83,16 +84,19 @@ pub(crate) enum Entry<'a> {
     },
     Gives(What),
     Call(Call<'a>),
+    TableCall(TableCall),
+    /// The processes that are claimed to run.
+    Claim(Vec<usize>),
 }
 
 /// The part before the first blank, and the part behind it. Where a part is missing it is empty: a sheet's lines are refused alike for both.
-fn first_word(line: &[u8]) -> (&[u8], &[u8]) {
+pub(crate) fn first_word(line: &[u8]) -> (&[u8], &[u8]) {
     let mut parts = line.splitn(2, |b| *b == b' ');
     (parts.next().unwrap_or(b""), parts.next().unwrap_or(b""))
 }
 
 /// A number that is a whole line.
-fn whole_number(line: &[u8]) -> Result<usize, Bad> {
+pub(crate) fn whole_number(line: &[u8]) -> Result<usize, Bad> {
     number(line)
         .and_then(|n| usize::try_from(n).ok())
         .ok_or(Bad::Words)
@@ -266,10 +270,14 @@ pub(crate) fn read_entry(heap: Global, line: &[u8]) -> Result<Option<Entry<'_>>,
         return Ok(None);
     }
     let (word, rest) = first_word(line);
+    if let Some(call) = read_table_call(heap, word, rest)? {
+        return Ok(Some(Entry::TableCall(call)));
+    }
     let entry = match word {
         b"mirror" if rest.is_empty() => Entry::Mirror,
         b"process" => process(rest)?,
         b"gives" => Entry::Gives(read_what(heap, rest)?),
+        b"claim" => Entry::Claim(read_claim(heap, rest)?),
         _ => Entry::Call(read_call(heap, word, rest)?),
     };
     Ok(Some(entry))
