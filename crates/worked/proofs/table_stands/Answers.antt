@@ -1,5 +1,5 @@
 use Rattle.worked.proofs.Cases.{worked}
-use Rattle.worked.proofs.Lives.{examples_stand}
+use Rattle.worked.proofs.Computed.{examples_stand}
 use Rattle.worked.proofs.table_stands.Goals as goal
 
 pub returns : goal.returns
