@@ -30,7 +30,10 @@ impl Room {
         let status: Vec<u8> = vec![in heap; 0; MAX_STATUS_LEN]?;
         let text: Vec<u8> = vec![in heap; 0; TEXT]?;
         let paths: Vec<PathRow> = vec![in heap; PathRow { at: 0, len: 0 }; ROWS]?;
-        let pairs: Vec<MetaRow> = vec![in heap; MetaRow { key: nowhere, value: nowhere }; ROWS]?;
+        let pairs: Vec<MetaRow> = vec![in heap; MetaRow {
+            key: nowhere,
+            value: nowhere
+        }; ROWS]?;
         let versions: Vec<u64> = vec![in heap; 0; ROWS]?;
         Ok(Room {
             work,

@@ -34,12 +34,7 @@ fn content_of(heap: Global, content: &[u8]) -> Said {
 }
 
 /// What a server was asked.
-fn asked(
-    heap: Global,
-    request: &Request,
-    text: &[u8],
-    rows: &[MetaRow],
-) -> Said {
+fn asked(heap: Global, request: &Request, text: &[u8], rows: &[MetaRow]) -> Said {
     let command = Shown(request.command(text));
     let mut told = format!(in heap; "request {command}")?;
     for row in request.metadata(rows) {

@@ -55,50 +55,54 @@ pub(crate) fn names(heap: Global, list: &[u8]) -> Result<Vec<Name>, Bad> {
         .try_collect(heap)
 }
 
-/// What is given: `-` is not.
-fn given(heap: Global, word: &[u8]) -> Result<Option<Vec<u8>>, Bad> {
+fn id(heap: Global, word: &[u8]) -> Result<Option<ObjectId>, Bad> {
     if word == b"-".as_slice() {
         return Ok(None);
     }
-    Ok(Some(spelt(heap, word)?))
-}
-
-fn id(heap: Global, word: &[u8]) -> Result<Option<ObjectId>, Bad> {
-    let Some(bytes) = given(heap, word)? else {
-        return Ok(None);
-    };
-    match bytes.as_slice().first_chunk::<20>() {
+    match spelt(heap, word)?.as_slice().first_chunk::<20>() {
         Some(bytes) => Ok(Some(ObjectId::from(*bytes))),
         None => Err(Bad::Line),
     }
 }
 
+/// What an apply asks for, but its content. A reference's name is empty where it has none.
+#[derive(Clone, Copy)]
+struct Asked<'a> {
+    operation: Operation,
+    delay: Delay,
+    path: &'a [u8],
+    ref_name: &'a [u8],
+    treeish: Option<ObjectId>,
+    blob: Option<ObjectId>,
+}
+
 impl Stage<'_> {
-    fn apply(&mut self, room: &mut Room, words: &[&[u8]]) -> Result<Answer, Bad> {
-        let heap = self.heap;
-        let key = key(heap, word(words, 1))?;
-        let path = spelt(heap, word(words, 3))?;
-        let ref_name = given(heap, word(words, 4))?;
-        let content = spelt(heap, word(words, 8))?;
+    /// Gives content, and tells of its reference where that has a name.
+    fn give<'b>(
+        &mut self,
+        room: &mut Room,
+        key: &Key,
+        asked: &Asked<'b>,
+        content: &[u8],
+    ) -> Answer {
+        let name = asked.ref_name;
         let context = Context {
-            rela_path: &path,
-            ref_name: ref_name.as_ref().map(|name| name.as_slice()),
-            treeish: id(heap, word(words, 5))?,
-            blob: id(heap, word(words, 6))?,
+            rela_path: asked.path,
+            ref_name: (!name.is_empty()).then_some(name),
+            treeish: asked.treeish,
+            blob: asked.blob,
         };
-        let operation = operation(word(words, 2))?;
-        let delay = delay(word(words, 7))?;
         let applied = self.table.apply_delayed(
             &mut self.host,
             &mut room.work,
             &mut room.status,
-            &key,
-            &content,
-            operation,
-            delay,
+            key,
+            content,
+            asked.operation,
+            asked.delay,
             &context,
         );
-        Ok(match applied {
+        match applied {
             Ok(Applied::Passed) => Answer::Word("passed"),
             Ok(Applied::Delayed) => Answer::Word("delayed"),
             Ok(Applied::Immediate(token)) => {
@@ -107,7 +111,24 @@ impl Stage<'_> {
             }
             Err(apply::Error::ProcessStatus(status)) => Answer::Status(status),
             Err(why) => refused(why),
-        })
+        }
+    }
+
+    fn apply(&mut self, room: &mut Room, words: &[&[u8]]) -> Result<Answer, Bad> {
+        let heap = self.heap;
+        let key = key(heap, word(words, 1))?;
+        let path = spelt(heap, word(words, 3))?;
+        let ref_name = spelt(heap, word(words, 4))?;
+        let content = spelt(heap, word(words, 8))?;
+        let asked = Asked {
+            operation: operation(word(words, 2))?,
+            delay: delay(word(words, 7))?,
+            path: &path,
+            ref_name: &ref_name,
+            treeish: id(heap, word(words, 5))?,
+            blob: id(heap, word(words, 6))?,
+        };
+        Ok(self.give(room, &key, &asked, &content))
     }
 
     fn fetch(&mut self, room: &mut Room, words: &[&[u8]]) -> Result<Answer, Bad> {
