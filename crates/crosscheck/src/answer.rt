@@ -38,7 +38,11 @@ impl fmt::Display for Told<'_> {
             Status::Unset => f.write_str("unset"),
             Status::Named(_, len) => {
                 let front = &self.area[0..len.min(MAX_STATUS_LEN).min(self.area.len())];
-                write!(f, "named {}", Shown(front))
+                write!(f, "named {}", Shown(front))?;
+                if len > MAX_STATUS_LEN {
+                    write!(f, " of {len}")?;
+                }
+                Ok(())
             }
         }
     }

@@ -67,26 +67,45 @@ fn end_writing<H: Host>(host: &mut H, writing: Writing) -> (Response, Option<Ans
     }
 }
 
+/// What one read of a content comes to.
+enum Turn {
+    More(Request),
+    Over(Response, Option<Answer>),
+}
+
+/// Reads one payload of a content, and adds it to what was read before.
+fn read_payload<H: Host>(
+    host: &mut H,
+    room: &mut Room,
+    content: &mut Vec<u8>,
+    request: Request,
+) -> Turn {
+    match request.read(host, &mut room.work) {
+        Ok(Content::Payload(more, n)) => {
+            let payload = &room.work[0..n.min(room.work.len())];
+            match content.extend_from_slice(payload) {
+                Ok(()) => Turn::More(more),
+                Err(_) => Turn::Over(more.without_content(), Some(Answer::Word("no memory"))),
+            }
+        }
+        Ok(Content::End(response)) => Turn::Over(response, None),
+        Err(Refused { back, why }) => Turn::Over(back.without_content(), Some(refused(why))),
+    }
+}
+
 /// A content's payloads up to its end, or what ended it before; it has at most `most` payloads.
 fn read_content<H: Host>(
     host: &mut H,
-    work: &mut [u8],
+    room: &mut Room,
     content: &mut Vec<u8>,
     request: Request,
     most: usize,
 ) -> (Response, Option<Answer>) {
     let mut request = request;
     for _ in 0..most {
-        match request.read(host, work) {
-            Ok(Content::Payload(more, n)) => {
-                request = more;
-                let payload = &work[0..n.min(work.len())];
-                if content.extend_from_slice(payload).is_err() {
-                    return (request.without_content(), Some(Answer::Word("no memory")));
-                }
-            }
-            Ok(Content::End(response)) => return (response, None),
-            Err(Refused { back, why }) => return (back.without_content(), Some(refused(why))),
+        match read_payload(host, room, content, request) {
+            Turn::More(more) => request = more,
+            Turn::Over(response, refusal) => return (response, refusal),
         }
     }
     (request.without_content(), Some(Answer::Word("no end")))
@@ -215,7 +234,7 @@ impl Stage<'_> {
             Role::Reads(request) => {
                 let (response, refusal) = read_content(
                     &mut self.host,
-                    &mut room.work,
+                    room,
                     &mut content,
                     request,
                     most,

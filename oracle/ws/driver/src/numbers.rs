@@ -29,11 +29,18 @@ pub(crate) fn shake_number(e: &process::client::handshake::Error) -> u8 {
         UnsupportedCapability { .. } => 34,
     }
 }
+/// A status name: its first 128 bytes, and how long it is if there are more.
+fn name_text(name: &str) -> String {
+    match name.as_bytes() {
+        long if long.len() > 128 => format!("named {} of {}", hex(&long[..128]), long.len()),
+        name => format!("named {}", hex(name)),
+    }
+}
 pub(crate) fn status_text(s: &process::Status) -> String {
     match s {
         process::Status::Previous => "previous".into(),
         process::Status::Unset => "unset".into(),
-        process::Status::Named(n) => format!("named {}", hex(n.as_bytes())),
+        process::Status::Named(n) => name_text(n),
     }
 }
 pub(crate) fn apply_answer(e: &apply::Error) -> String {
@@ -78,7 +85,7 @@ pub(crate) fn read_answer(r: std::io::Result<usize>, buf: &[u8]) -> String {
         Err(e) => match e.to_string().strip_prefix(FINAL) {
             // The message of Unset and that of an empty name are the same here.
             Some("") => "37 nameless".into(),
-            Some(name) => format!("37 named {}", hex(name.as_bytes())),
+            Some(name) => format!("37 {}", name_text(name)),
             None => io_number(&e).to_string(),
         },
     }
