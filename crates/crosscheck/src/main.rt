@@ -1,4 +1,4 @@
-//! Plays exchanges through the library, and prints what happened; oracle/README.md has the format of both.
+//! `crosscheck [FILE..]` plays exchanges through the library and prints what happened; oracle/README.md has the format of both. `-`, or no file, is standard input.
 #![tactic(auto)]
 
 mod answer;
@@ -14,19 +14,28 @@ mod words;
 use room::Room;
 use stage::play;
 use std::io::Read;
+use std::{env, fs};
 use words::split_lines;
 
-/// Plays the exchanges one by one: each begins with a line `case NAME`, and an empty line says nothing.
-fn run(rt: &HostRuntime) -> anyhow::Result<()> {
+/// The bytes of standard input.
+fn standard_input(rt: &HostRuntime) -> anyhow::Result<Vec<u8>> {
+    let mut bytes = Vec::new(rt.alloc());
+    rt.stdin().read_to_end(&mut bytes)?;
+    Ok(bytes)
+}
+
+/// Plays the exchanges of a file one by one: each begins with a line `case NAME`, and an empty line says nothing.
+fn show(rt: &HostRuntime, room: &mut Room, name: &String) -> anyhow::Result<()> {
     let heap = rt.alloc();
-    let mut text = Vec::new(heap);
-    rt.stdin().read_to_end(&mut text)?;
-    let lines = split_lines(heap, &text)?;
-    let mut room = Room::new(heap)?;
+    let text = if name.as_str() == "-" {
+        standard_input(rt)?
+    } else {
+        fs::read(rt, name.as_str())?
+    };
     let mut case: Vec<&[u8]> = Vec::new(heap);
-    for line in lines {
+    for line in split_lines(heap, &text)? {
         if line.starts_with(b"case ") && !case.is_empty() {
-            print!(rt; "{}", play(heap, &mut room, &case)?)?;
+            print!(rt; "{}", play(heap, room, &case)?)?;
             case.clear();
         }
         if !line.is_empty() {
@@ -34,7 +43,21 @@ fn run(rt: &HostRuntime) -> anyhow::Result<()> {
         }
     }
     if !case.is_empty() {
-        print!(rt; "{}", play(heap, &mut room, &case)?)?;
+        print!(rt; "{}", play(heap, room, &case)?)?;
+    }
+    Ok(())
+}
+
+fn run(rt: &HostRuntime) -> anyhow::Result<()> {
+    let mut room = Room::new(rt.alloc())?;
+    let mut names = env::args(rt)?.skip(1);
+    let first = match names.next() {
+        Some(name) => name,
+        None => String::from_str(rt.alloc(), "-")?,
+    };
+    show(rt, &mut room, &first)?;
+    for name in names {
+        show(rt, &mut room, &name)?;
     }
     Ok(())
 }

@@ -1,5 +1,5 @@
 //! A server's calls. What is worked off cannot be let go, so a call answers what is told of it, and nothing here is left by `?` before the exchange's lines are all played.
-use crate::answer::{Answer, refused};
+use crate::answer::refused;
 use crate::bad::Bad;
 use crate::room::Room;
 use crate::stage::{Stage, is_scene};
@@ -15,10 +15,11 @@ use server::response::{Report, Response};
 use server::server::{Next, Server};
 use server::writing::{Unflushed, Writing};
 use slices::name::Name;
+use slices::refusal::Numbered;
 use std::alloc::{AllocError, Global};
 
 /// What a server has to do next.
-pub(crate) enum Role {
+enum Role {
     /// No hands were shaken.
     Nobody,
     Waits(Server),
@@ -57,12 +58,12 @@ fn shared(heap: Global, server: &Server, names: &[Name]) -> Result<String, Alloc
     Ok(told)
 }
 
-/// Ends a writing; what its flush was refused for, if it was.
-fn end_writing<H: Host>(host: &mut H, writing: Writing) -> (Response, Option<Answer>) {
+/// Ends a writing; the number that its flush was refused for, or 0.
+fn end_writing<H: Host>(host: &mut H, writing: Writing) -> (Response, u8) {
     let mut work = [0u8; MAX_LINE_LEN];
     match writing.flush(host, &mut work) {
-        Ok(response) => (response, None),
-        Err(Unflushed::Ended(Refused { back, why })) => (back, Some(refused(why))),
+        Ok(response) => (response, 0),
+        Err(Unflushed::Ended(Refused { back, why })) => (back, why.refusal_number()),
         Err(Unflushed::Open(Refused { back, why: _ })) => unreachable!(),
     }
 }
@@ -70,7 +71,7 @@ fn end_writing<H: Host>(host: &mut H, writing: Writing) -> (Response, Option<Ans
 /// What one read of a content comes to.
 enum Turn {
     More(Request),
-    Over(Response, Option<Answer>),
+    Over(Response, Result<u8, Bad>),
 }
 
 /// Reads one payload of a content, and adds it to what was read before.
@@ -85,30 +86,30 @@ fn read_payload<H: Host>(
             let payload = &room.work[0..n.min(room.work.len())];
             match content.extend_from_slice(payload) {
                 Ok(()) => Turn::More(more),
-                Err(_) => Turn::Over(more.without_content(), Some(Answer::Word("no memory"))),
+                Err(_) => Turn::Over(more.without_content(), Err(Bad::OutOfMemory)),
             }
         }
-        Ok(Content::End(response)) => Turn::Over(response, None),
-        Err(Refused { back, why }) => Turn::Over(back.without_content(), Some(refused(why))),
+        Ok(Content::End(response)) => Turn::Over(response, Ok(0)),
+        Err(Refused { back, why }) => Turn::Over(back.without_content(), Ok(why.refusal_number())),
     }
 }
 
-/// A content's payloads up to its end, or what ended it before; it has at most `most` payloads.
+/// A content's payloads up to its end, by 0 or the number of what ended it before; it has at most `most` payloads.
 fn read_content<H: Host>(
     host: &mut H,
     room: &mut Room,
     content: &mut Vec<u8>,
     request: Request,
     most: usize,
-) -> (Response, Option<Answer>) {
+) -> (Response, Result<u8, Bad>) {
     let mut request = request;
     for _ in 0..most {
         match read_payload(host, room, content, request) {
             Turn::More(more) => request = more,
-            Turn::Over(response, refusal) => return (response, refusal),
+            Turn::Over(response, read) => return (response, read),
         }
     }
-    (request.without_content(), Some(Answer::Word("no end")))
+    (request.without_content(), Err(Bad::Line))
 }
 
 /// The server that waits for its next request once what it works on is done, if there is one.
@@ -119,7 +120,7 @@ fn waiting<H: Host>(host: &mut H, role: Role) -> Option<Server> {
         Role::Reads(request) => Some(request.without_content().done()),
         Role::Answers(response) => Some(response.done()),
         Role::Writes(writing) => {
-            let (response, _refused) = end_writing(host, writing);
+            let (response, _number) = end_writing(host, writing);
             Some(response.done())
         }
     }
@@ -130,7 +131,7 @@ fn answering<H: Host>(host: &mut H, role: Role) -> Role {
     match role {
         Role::Reads(request) => Role::Answers(request.without_content()),
         Role::Writes(writing) => {
-            let (response, _refused) = end_writing(host, writing);
+            let (response, _number) = end_writing(host, writing);
             Role::Answers(response)
         }
         other => other,
@@ -147,12 +148,9 @@ fn writing_on<H: Host>(host: &mut H, role: Role) -> Role {
     }
 }
 
-/// What a call says that makes nothing known but that it went well, or why not.
-fn went(heap: Global, refusal: Option<Answer>, room: &Room) -> Said {
-    match refusal {
-        Some(answer) => Ok(answer.told(heap, room)?),
-        None => Ok(String::from_str(heap, "0")?),
-    }
+/// A refusal's number, or 0 where the call went well.
+fn went(heap: Global, number: u8) -> Said {
+    Ok(format!(in heap; "{number}")?)
 }
 
 fn words_of(heap: Global, text: &str) -> Said {
@@ -220,9 +218,7 @@ impl Stage<'_> {
                 (Role::Reads(request), said)
             }
             Ok(Next::Over(server)) => (Role::Waits(server), words_of(heap, "none")),
-            Err(Refused { back, why }) => {
-                (Role::Waits(back), went(heap, Some(refused(why)), room))
-            }
+            Err(Refused { back, why }) => { (Role::Waits(back), went(heap, why.refusal_number())) }
         }
     }
 
@@ -232,16 +228,17 @@ impl Stage<'_> {
         let mut content: Vec<u8> = Vec::new(heap);
         match role {
             Role::Reads(request) => {
-                let (response, refusal) = read_content(
+                let (response, read) = read_content(
                     &mut self.host,
                     room,
                     &mut content,
                     request,
                     most,
                 );
-                let said = match refusal {
-                    Some(answer) => went(heap, Some(answer), room),
-                    None => content_of(heap, &content),
+                let said = match read {
+                    Ok(0) => content_of(heap, &content),
+                    Ok(number) => went(heap, number),
+                    Err(bad) => Err(bad),
                 };
                 (Role::Answers(response), said)
             }
@@ -264,9 +261,9 @@ impl Stage<'_> {
         match answering(&mut self.host, role) {
             Role::Answers(response) => {
                 match response.write_status(&mut self.host, &mut room.work, report) {
-                    Ok(response) => (Role::Answers(response), went(heap, None, room)),
+                    Ok(response) => (Role::Answers(response), went(heap, 0)),
                     Err(Refused { back, why }) => {
-                        (Role::Answers(back), went(heap, Some(refused(why)), room))
+                        (Role::Answers(back), went(heap, why.refusal_number()))
                     }
                 }
             }
@@ -283,9 +280,9 @@ impl Stage<'_> {
         match writing_on(&mut self.host, role) {
             Role::Writes(writing) => {
                 match writing.write(&mut self.host, &mut room.work, &bytes) {
-                    Ok(writing) => (Role::Writes(writing), went(heap, None, room)),
+                    Ok(writing) => (Role::Writes(writing), went(heap, 0)),
                     Err(Refused { back, why }) => {
-                        (Role::Writes(back), went(heap, Some(refused(why)), room))
+                        (Role::Writes(back), went(heap, why.refusal_number()))
                     }
                 }
             }
@@ -293,12 +290,12 @@ impl Stage<'_> {
         }
     }
 
-    fn flush(&mut self, room: &mut Room, role: Role) -> (Role, Said) {
+    fn flush(&mut self, role: Role) -> (Role, Said) {
         let heap = self.heap;
         match writing_on(&mut self.host, role) {
             Role::Writes(writing) => {
-                let (response, refusal) = end_writing(&mut self.host, writing);
-                (Role::Answers(response), went(heap, refusal, room))
+                let (response, number) = end_writing(&mut self.host, writing);
+                (Role::Answers(response), went(heap, number))
             }
             other => (other, words_of(heap, "no request")),
         }
@@ -324,7 +321,7 @@ impl Stage<'_> {
                 named => self.status(room, role, named),
             },
             b"write" => self.write(room, role, word(words, 1)),
-            b"flush" => self.flush(room, role),
+            b"flush" => self.flush(role),
             _ => (role, Err(Bad::Line)),
         }
     }
@@ -372,7 +369,7 @@ fn retire<H: Host>(host: &mut H, role: Role) {
             let _server = response.done();
         }
         Role::Writes(writing) => {
-            let (response, _refused) = end_writing(host, writing);
+            let (response, _number) = end_writing(host, writing);
             let _server = response.done();
         }
     }

@@ -17,7 +17,7 @@ use trace::traced::{Passed, Traced};
 
 /// What a started process is known by: its row, how many bytes still wait there, and what went since that was last told.
 #[derive(Drop)]
-pub(crate) struct Seen {
+struct Seen {
     row: usize,
     left: usize,
     moved: bool,
