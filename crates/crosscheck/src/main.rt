@@ -24,16 +24,20 @@ fn standard_input(rt: &HostRuntime) -> anyhow::Result<Vec<u8>> {
     Ok(bytes)
 }
 
-/// Plays the exchanges of a file one by one: each begins with a line `case NAME`, and an empty line says nothing.
-fn show(rt: &HostRuntime, room: &mut Room, name: &String) -> anyhow::Result<()> {
+/// The bytes of a file; `-` is standard input.
+fn read(rt: &HostRuntime, name: &String) -> anyhow::Result<Vec<u8>> {
+    if name.as_str() == "-" {
+        return standard_input(rt);
+    }
+    Ok(fs::read(rt, name.as_str())?)
+}
+
+/// Plays the exchanges of a text one by one: each begins with a line `case NAME`, and an empty line says nothing.
+fn play_all(rt: &HostRuntime, room: &mut Room, text: &[u8]) -> anyhow::Result<()> {
     let heap = rt.alloc();
-    let text = if name.as_str() == "-" {
-        standard_input(rt)?
-    } else {
-        fs::read(rt, name.as_str())?
-    };
+    let lines = split_lines(heap, text)?;
     let mut case: Vec<&[u8]> = Vec::new(heap);
-    for line in split_lines(heap, &text)? {
+    for line in lines {
         if line.starts_with(b"case ") && !case.is_empty() {
             print!(rt; "{}", play(heap, room, &case)?)?;
             case.clear();
@@ -46,6 +50,12 @@ fn show(rt: &HostRuntime, room: &mut Room, name: &String) -> anyhow::Result<()> 
         print!(rt; "{}", play(heap, room, &case)?)?;
     }
     Ok(())
+}
+
+/// Plays the exchanges of a file.
+fn show(rt: &HostRuntime, room: &mut Room, name: &String) -> anyhow::Result<()> {
+    let text = read(rt, name)?;
+    play_all(rt, room, &text)
 }
 
 fn run(rt: &HostRuntime) -> anyhow::Result<()> {
