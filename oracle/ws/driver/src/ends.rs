@@ -1,6 +1,6 @@
 //! A client's handshake alone, and a server.
 use crate::numbers::{io_number, shake_number};
-use crate::seen::{look, mask, tell, tell_};
+use crate::seen::{look, mask, tell, Alike};
 use crate::text::{bytes, hex, text};
 use gix_filter::driver::process;
 use std::io::{Read, Write};
@@ -71,7 +71,7 @@ pub(crate) fn serve(out: &mut String, lines: &mut Lines<'_>) {
             let before = look();
             let a: String = $answer;
             out.push_str(&format!("{}\n= {a}\n", $line));
-            tell(out, &before, false);
+            tell(out, &before, Alike::AsSent);
         }};
     }
     while let Some(&&line) = lines.peek() {
@@ -96,7 +96,7 @@ pub(crate) fn serve(out: &mut String, lines: &mut Lines<'_>) {
                     Err(e) => e,
                 };
                 out.push_str(&format!("{line}\n= {a}\n"));
-                tell_(out, &before, false, true);
+                tell(out, &before, Alike::Serve);
             }
             "next" => {
                 lines.next();
@@ -108,11 +108,11 @@ pub(crate) fn serve(out: &mut String, lines: &mut Lines<'_>) {
                 match s.next_request() {
                     Ok(None) => {
                         out.push_str(&format!("{line}\n= none\n"));
-                        tell(out, &before, false)
+                        tell(out, &before, Alike::AsSent)
                     }
                     Err(e) => {
                         out.push_str(&format!("{line}\n= {}\n", next_answer(e)));
-                        tell(out, &before, false)
+                        tell(out, &before, Alike::AsSent)
                     }
                     Ok(Some(mut req)) => {
                         let meta: String = req
@@ -121,7 +121,7 @@ pub(crate) fn serve(out: &mut String, lines: &mut Lines<'_>) {
                             .map(|(k, v)| format!(" {}={}", hex(k.as_bytes()), hex(v)))
                             .collect();
                         out.push_str(&format!("{line}\n= request {}{meta}\n", hex(req.command.as_bytes())));
-                        tell(out, &before, false);
+                        tell(out, &before, Alike::AsSent);
                         while let Some(&&line) = lines.peek() {
                             let w: Vec<&str> = line.split(' ').collect();
                             match w[0] {
@@ -176,7 +176,7 @@ pub(crate) fn serve(out: &mut String, lines: &mut Lines<'_>) {
                                         lines.next();
                                     }
                                     out.push_str("flush\n= 0\n"); // The drop tells no refusal.
-                                    tell(out, &before, false);
+                                    tell(out, &before, Alike::AsSent);
                                 }
                                 _ => break,
                             }
@@ -192,4 +192,3 @@ pub(crate) fn serve(out: &mut String, lines: &mut Lines<'_>) {
         }
     }
 }
-

@@ -8,7 +8,7 @@ mod text;
 use ends::{serve, shake};
 use gix_filter::driver::State;
 use host::with;
-use seen::{look, tell, tell_records};
+use seen::{look, tell, tell_records, Alike};
 use std::io::Write;
 use std::panic::{catch_unwind, AssertUnwindSafe};
 use table::table_call;
@@ -89,7 +89,8 @@ fn case(lines: &[&str]) -> String {
                 }))
                 .unwrap_or_else(|_| "panic".into());
                 out.push_str(&format!("{line}\n= {a}\n"));
-                tell(&mut out, &before, w[0] == "apply");
+                let alike = if w[0] == "apply" { Alike::Apply } else { Alike::AsSent };
+                tell(&mut out, &before, alike);
                 tell_records(&mut out, &s);
             }
         }

@@ -90,4 +90,3 @@ pub(crate) fn read_answer(r: std::io::Result<usize>, buf: &[u8]) -> String {
         },
     }
 }
-

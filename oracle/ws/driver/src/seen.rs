@@ -102,10 +102,15 @@ pub(crate) fn sorted_caps(sent: &[u8]) -> Vec<u8> {
     }
     lines.concat()
 }
-pub(crate) fn tell(out: &mut String, before: &Seen, is_apply: bool) {
-    tell_(out, before, is_apply, false)
+/// Which bytes that were sent are told otherwise than as they went: the content of an apply joined, a server's names in order.
+#[derive(Clone, Copy)]
+pub(crate) enum Alike {
+    AsSent,
+    Apply,
+    Serve,
 }
-pub(crate) fn tell_(out: &mut String, before: &Seen, is_apply: bool, is_serve: bool) {
+/// Tells what happened since `before`.
+pub(crate) fn tell(out: &mut String, before: &Seen, alike: Alike) {
     with(|h| {
         for n in before.started..h.order.len() {
             let known: Vec<u32> = h.scripts.iter().map(|p| p.pid).collect();
@@ -118,12 +123,10 @@ pub(crate) fn tell_(out: &mut String, before: &Seen, is_apply: bool, is_serve: b
             let p = &h.scripts[i];
             if p.sent.len() > before.sent[i] {
                 let b = &p.sent[before.sent[i]..];
-                let b = if is_apply {
-                    joined(b, if n >= before.started { 3 } else { 1 })
-                } else if is_serve && std::env::var_os("ORACLE_UNSORTED").is_none() {
-                    sorted_caps(b)
-                } else {
-                    b.to_vec()
+                let b = match alike {
+                    Alike::Apply => joined(b, if n >= before.started { 3 } else { 1 }),
+                    Alike::Serve => sorted_caps(b),
+                    Alike::AsSent => b.to_vec(),
                 };
                 out.push_str(&format!("sent {n} {}\n", hex(&b)));
             }
@@ -149,4 +152,3 @@ pub(crate) fn tell_records(out: &mut String, s: &State) {
         out.push_str(&format!("record {} {n} {v} {}\n", hex(&k), mask(&NAMES, caps.iter())));
     }
 }
-

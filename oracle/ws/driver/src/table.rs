@@ -34,7 +34,7 @@ pub(crate) fn table_call(s: &mut State, reading: &mut Vec<Vec<u8>>, w: &[&str]) 
     if (w[0] == "read") != is {
         return if is { "4" } else { "5" }.into();
     }
-    let a = table_call_(s, w);
+    let a = make_call(s, w);
     if a == "result" {
         reading.push(key)
     } else if is && !a.starts_with("payload") {
@@ -42,7 +42,7 @@ pub(crate) fn table_call(s: &mut State, reading: &mut Vec<Vec<u8>>, w: &[&str]) 
     }
     a
 }
-pub(crate) fn table_call_(s: &mut State, w: &[&str]) -> String {
+pub(crate) fn make_call(s: &mut State, w: &[&str]) -> String {
     match w[0] {
         "apply" => {
             let (path, r, content) = (bytes(w[3]), bytes(w[4]), bytes(w[8]));
@@ -93,4 +93,3 @@ pub(crate) fn table_call_(s: &mut State, w: &[&str]) -> String {
         _ => panic!("call {}", w[0]),
     }
 }
-

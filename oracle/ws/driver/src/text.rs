@@ -51,4 +51,3 @@ pub(crate) fn hex(b: &[u8]) -> String {
 pub(crate) fn text(s: &str) -> String {
     String::from_utf8(bytes(s)).expect("text")
 }
-
