@@ -1,0 +1,1 @@
+//! Stand-in: a module that no exchange reaches.
