@@ -1,4 +1,5 @@
 -- How a version is chosen from those that a client offers.
+-- From docs/PROTOCOL.md, Choosing a version.
 use Rattle.std.specs.Prelude.{◌≡◌, ℕ, ◌<◌, ◌≤◌, ◌↔◌, Bool, List, ◌∷◌, ◌++◌, Option, is_some, IsNone, IfSome, All, Contains, filter, find, max, nat_eq, nat_le}
 use Rattle.std.specs.List.{reduce}
 use Rattle.slices.specs.First.{first_equal}

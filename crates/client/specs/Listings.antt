@@ -1,4 +1,5 @@
 -- A listing: the process names the paths that it can answer now.
+-- From gitattributes, long running filter process (`list_available_blobs`); docs/PROTOCOL.md, A listing.
 use Rattle.std.specs.Prelude.{◌≡◌, ℕ, Bool, true, false, not, List, [], ◌∷◌, ◌++◌, length, is_some, Ok, Err, codes, Result, nat_lt}
 use Rattle.slices.specs.Answers.{told}
 use Rattle.packetline.specs.Packets.{Pkt, flush, delimiter, response_end, line, line_pkt, packets, decode, flushes_of}

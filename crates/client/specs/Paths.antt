@@ -1,4 +1,5 @@
 -- The paths that a listing names, and where they are stored.
+-- From docs/PROTOCOL.md, A listing.
 use Rattle.std.specs.Prelude.{◌≡◌, ℕ, ◌+◌, ◌-◌, ◌^◌, ◌<◌, ◌≤◌, min, cond, ◌&&◌, ◌⊎◌, List, [], ◌∷◌, ◌++◌, length, take, drop, Some, None, Option, ◌==◌, nat_le, nat_lt, slice_index_or}
 use Rattle.slices.specs.Held.{rows_over}
 use Rattle.packetline.specs.Packets.{Pkt, flush, delimiter, response_end, line, over}

@@ -1,4 +1,5 @@
 -- An exchange: a command in lines, its content in packets, and the status that the process answers.
+-- From gitattributes, long running filter process; docs/PROTOCOL.md, An exchange.
 use Rattle.std.specs.Prelude.{◌≡◌, ℕ, cond, List, [], ◌∷◌, ◌++◌, map, Some, None, Ok, codes, Option, Result}
 use Rattle.packetline.specs.declared.encode.Error.{Error as Misuse}
 use Rattle.packetline.specs.declared.encode.Error.TheVariants.{AreaTooShort as Short, OutsideLimits}

@@ -1,4 +1,5 @@
 -- A result: payloads up to a flush, and then the final status.
+-- From gitattributes, long running filter process; docs/PROTOCOL.md, A result.
 use Rattle.std.specs.Prelude.{◌≡◌, ℕ, List, [], ◌∷◌, take, Some, None, Ok, Option, Result}
 use Rattle.packetline.specs.Packets.{Pkt, flush, line}
 use Rattle.host.specs.declared.fault.LineFault.{LineFault}

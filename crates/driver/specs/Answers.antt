@@ -1,4 +1,5 @@
 -- What the code's answers are to a table, and the number of each refusal.
+-- The numbers are those of docs/ANSWERS.md.
 use Rattle.std.specs.Prelude.{◌≡◌, ℕ, true, false, List, take, Some, None, Ok, Err, Option, Result, unwrap_or}
 use Rattle.process.specs.declared.status.Status.{Status}
 use Rattle.handshake.specs.declared.protocol.Protocol.{Protocol}

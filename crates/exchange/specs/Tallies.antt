@@ -1,4 +1,5 @@
 -- What the flushes of a process are counted by, as code keeps it: counts that stay at 2^64 - 1.
+-- From docs/RULES.md, The rules.
 use Rattle.std.specs.Prelude.{◌≡◌, ◌+◌, ◌*◌, List, ◌∷◌, is_some}
 use Rattle.client.specs.Paths.{most}
 use Rattle.host.specs.Talk.{Event}

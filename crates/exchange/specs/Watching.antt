@@ -1,4 +1,5 @@
 -- The key in code: what is seen of each call, the words by which a status is judged, and which processes run.
+-- From docs/RULES.md, The key.
 use Rattle.std.specs.Prelude.{◌≡◌, ℕ, List, length, map}
 use Rattle.packetline.specs.Packets.{Pkt, decode}
 use Rattle.rules.specs.Calls.{Call, Turn}

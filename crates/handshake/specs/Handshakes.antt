@@ -1,4 +1,5 @@
 -- The client's handshake: client and process agree on a version, and the process names what it can do.
+-- From gitattributes, long running filter process; what is refused, and by which number, is told in docs/PROTOCOL.md, The client's handshake.
 use Rattle.std.specs.Prelude.{◌≡◌, ℕ, true, cond, List, [], ◌∷◌, ◌++◌, map, is_some, Some, None, Ok, Err, codes, Decides, Option, Result, nat_eq}
 use Rattle.slices.specs.declared.name.Name.{Name}
 use Rattle.slices.specs.First.{first_equal}

@@ -1,4 +1,5 @@
 -- What the two ends of a handshake share: the lines that they send, the lines that they look for, and lines that are judged as they are read.
+-- The lines are those of gitattributes, long running filter process.
 use Rattle.std.specs.Prelude.{ℕ, Bool, false, List, ◌++◌, Some, None, Ok, Err, codes, decimal, Option, Result}
 use Rattle.std.specs.Str.{bytes_eq}
 use Rattle.slices.specs.declared.name.Name.{Name}

@@ -1,4 +1,5 @@
 -- The server's handshake: it hears which versions a client offers, chooses one, hears which capabilities the client wants, and names those that it has.
+-- From gitattributes, long running filter process, its other end; docs/PROTOCOL.md, The server's handshake.
 use Rattle.std.specs.Prelude.{◌≡◌, ℕ, ◌-◌, ◌≤◌, true, cond, List, [], ◌∷◌, ◌++◌, map, length, drop, Some, None, Ok, Err, codes, Decides, Option, Result, nat_eq, nat_lt, slice_index_or}
 use Rattle.std.specs.List.{AllByRecursion, IsDistinct}
 use Rattle.slices.specs.declared.name.Name.{Name}

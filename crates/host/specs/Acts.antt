@@ -1,4 +1,5 @@
 -- The four functions of a host, by what they answer and leave, and the log of what was asked of it.
+-- From docs/HOST.md, The four functions and The log.
 use Rattle.std.specs.Prelude.{◌≡◌, ℕ, ◌-◌, ◌<◌, ◌≤◌, Bool, true, false, cond, ◌&&◌, List, [], ◌∷◌, ◌++◌, length, take, Some, Ok, Err, Option, Result, nat_le, nat_lt, slice_set}
 use Rattle.packetline.specs.Packets.{over}
 use Rattle.host.specs.declared.fault.NotStarted.{NotStarted}

@@ -1,4 +1,5 @@
 -- The numbers of what can go wrong.
+-- From docs/ANSWERS.md.
 use Rattle.std.specs.Prelude.{ℕ}
 use Rattle.host.specs.declared.fault.NotStarted.{NotStarted}
 use Rattle.host.specs.declared.fault.Fault.{Fault}

@@ -1,4 +1,5 @@
 -- The numbers of refused calls.
+-- From docs/ANSWERS.md.
 use Rattle.std.specs.Prelude.{ℕ}
 use Rattle.host.specs.declared.call.CallError.{CallError}
 use Rattle.host.specs.declared.call.CallError.TheVariants.{Caller, Line}

@@ -1,5 +1,6 @@
 -- What is said to one process and heard from it in one call: a function from the process as the call finds it to an answer and the process as
 -- the call leaves it, with all that passed on the way. How a host cuts the bytes that it gives is not seen here.
+-- From docs/HOST.md, Talking to one process.
 use Rattle.std.specs.Prelude.{◌≡◌, ℕ, suc, List, [], ◌∷◌, ◌++◌, length, take, drop, Some, None, Ok, Err, Option, Result}
 use Rattle.std.specs.Option.{option_map}
 use Rattle.slices.specs.Answers.{told}

@@ -1,4 +1,5 @@
 -- What a host means: the processes that it started, in order, and which commands it can start now.
+-- From docs/HOST.md, The meaning.
 use Rattle.std.specs.Prelude.{◌≡◌, ℕ, Bool, List, [], ◌∷◌, drop, slice_index_or, slice_set}
 use Rattle.host.specs.declared.fault.Fault.{Fault}
 use Rattle.host.specs.declared.fault.Fault.TheVariants.{Broken}

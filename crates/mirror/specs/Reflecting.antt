@@ -1,4 +1,5 @@
 -- The server that each process of a mirror is: it gives content back as it came.
+-- From docs/HOST.md, Hosts that are built; what it says and hears is a server's part of gitattributes, long running filter process.
 use Rattle.std.specs.Prelude.{ℕ, zero, suc, Bool, cond, ◌||◌, List, [], ◌∷◌, ◌++◌, map, length, Some, None, Ok, codes, Option, Result, nat_le}
 use Rattle.std.specs.Str.{bytes_eq}
 use Rattle.slices.specs.declared.name.Name.{Name}

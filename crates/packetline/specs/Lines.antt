@@ -1,4 +1,5 @@
 -- A line by its prefix.
+-- The prefixes are those of gitattributes, long running filter process; docs/PROTOCOL.md, Lines by kind.
 use Rattle.std.specs.Prelude.{◌≡◌, ℕ, cond, List, [], ◌∷◌, ◌++◌, length, take, drop, Some, None, codes, Option, ◌≢◌}
 use Rattle.std.specs.List.{AllByRecursion}
 use Rattle.std.specs.Str.{bytes_eq}

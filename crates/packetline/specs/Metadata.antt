@@ -1,4 +1,5 @@
 -- Metadata, which is bytes and perhaps no text: white space at both ends, and pairs of a key and a value.
+-- From gitattributes, long running filter process (`key=value`), and docs/PROTOCOL.md, Metadata, for the white space.
 use Rattle.std.specs.Prelude.{◌≡◌, ℕ, zero, suc, ◌-◌, Bool, true, cond, ◌&&◌, List, [], ◌∷◌, ◌++◌, length, take, drop, Some, None, Option, ◌==◌, ◌≢◌}
 use Rattle.std.proofs.Math.Utf8.{encode}
 use Rattle.std.specs.Borrow.{Bor}

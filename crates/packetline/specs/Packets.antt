@@ -1,4 +1,5 @@
 -- The packet-line format: four hexadecimal digits give a packet's length with themselves, and its payload follows.
+-- From gitprotocol-common (pkt-line), and gitprotocol-v2 for the two markers. What these leave open is told in docs/PROTOCOL.md, Packets.
 use Rattle.std.specs.Prelude.{◌≡◌, ℕ, zero, suc, ◌+◌, ◌-◌, ◌*◌, ◌/◌, ◌%◌, Bool, true, cond, ◌&&◌, List, [], ◌∷◌, ◌++◌, map, length, take, drop, Some, None, Ok, Err, codes, Option, Result, ◌==◌, nat_le, nat_lt, slice_index}
 use Rattle.packetline.specs.declared.packet.Packet.{Packet}
 use Rattle.packetline.specs.declared.packet.Packet.TheVariants.{Flush, Delimiter, ResponseEnd, Data}

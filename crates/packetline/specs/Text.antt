@@ -1,4 +1,5 @@
 -- A line of text, which is UTF-8 without the white space at its end, and a number in digits.
+-- From docs/PROTOCOL.md, Text and Numbers: the way of gix-filter, where gitprotocol-common takes off one LF and does not ask for UTF-8.
 use Rattle.std.specs.Prelude.{◌≡◌, ℕ, ◌^◌, Bool, cond, ◌&&◌, List, [], ◌∷◌, ◌++◌, length, Some, None, Ok, Err, IsUtf8, Option, Result, nat_lt}
 use Rattle.std.proofs.Math.Utf8.{encodes, scalars}
 use Rattle.std.specs.Str.Parse.{without_leading_plus, digits_value}

@@ -1,4 +1,5 @@
 -- Capabilities: one bit for each desired name, the first of equal names.
+-- From docs/PROTOCOL.md, The client's handshake.
 use Rattle.std.specs.Prelude.{ℕ, ◌/◌, ◌%◌, ◌^◌, Bool, cond, List, Option, ◌==◌, bit_or, bit_xor, nat_lt}
 use Rattle.std.specs.Str.{bytes_eq}
 use Rattle.slices.specs.declared.name.Name.{Name}

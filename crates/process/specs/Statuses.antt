@@ -1,4 +1,5 @@
 -- A status: what a process says of a command, in lines up to a flush.
+-- From gitattributes, long running filter process; Previous and Unset are those of gix-filter, as docs/PROTOCOL.md, A status, tells them.
 use Rattle.std.specs.Prelude.{◌≡◌, ℕ, Bool, true, false, cond, List, [], ◌∷◌, ◌++◌, map, length, Some, None, Ok, codes, Option, Result, ◌≢◌}
 use Rattle.std.specs.List.{AllByRecursion}
 use Rattle.std.specs.Str.{bytes_eq}

@@ -1,4 +1,5 @@
 -- A recorded exchange as text: a record a line, `>` for what the client sent, `<` for what it was given, a blank, and the bytes in lower-case hexadecimal digits.
+-- From docs/EXCHANGE.md, A recording.
 use Rattle.std.specs.Prelude.{◌≡◌, ℕ, ◌/◌, ◌%◌, ◌<◌, List, [], ◌∷◌, length, Some, None, Ok, Err, vec_items, codes, Option, Result, Vec, ◌≢◌}
 use Rattle.std.specs.declared.alloc.Global.{Global}
 use Rattle.packetline.specs.Packets.{hex_char}

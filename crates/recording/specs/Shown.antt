@@ -1,4 +1,5 @@
 -- Bytes as a person reads them.
+-- From docs/EXCHANGE.md, What is printed of a recording.
 use Rattle.std.specs.Prelude.{◌≡◌, ℕ, ◌+◌, ◌-◌, ◌*◌, ◌/◌, ◌%◌, ◌<◌, cond, ◌&&◌, List, [], ◌∷◌, ◌++◌, Ok, Err, vec_items, Option, Result, Vec, MatchOption, ◌==◌, ◌≢◌, nat_le, slice_index}
 use Rattle.std.specs.Borrow.{Bor}
 use Rattle.std.specs.declared.alloc.Global.{Global}

@@ -1,4 +1,5 @@
 -- What a key, the path of a file and the name of a reference may be.
+-- From docs/TABLE.md, Keys and operations and What is asked.
 use Rattle.std.specs.Prelude.{ℕ, ◌≤◌, Bool, ◌&&◌, List, length, nat_le}
 
 -- a text that is not empty has at most so many bytes, of any kind

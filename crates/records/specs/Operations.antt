@@ -1,4 +1,5 @@
 -- The operations of a filter, and the names that a table desires of a process.
+-- The names are those of gitattributes, long running filter process; docs/TABLE.md, Keys and operations.
 use Rattle.std.specs.Prelude.{ℕ, List, [], ◌∷◌, codes}
 use Rattle.records.specs.declared.operation.Operation.{Operation}
 use Rattle.records.specs.declared.operation.Operation.TheVariants.{Clean, Smudge}

@@ -1,4 +1,5 @@
 -- The places of a table: each is free or holds a record, and no two records have one key.
+-- From docs/TABLE.md, Records.
 use Rattle.std.specs.Prelude.{◌≡◌, ℕ, ◌<◌, Bool, false, List, Some, None, Option, is_none, slice_index_or, ◌↔◌}
 use Rattle.std.specs.Option.{option_or}
 use Rattle.std.specs.Ordering.{on}

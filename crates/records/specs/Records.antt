@@ -1,4 +1,5 @@
 -- What a table's records are to who looks for one, and what a change of one does to the places.
+-- From docs/TABLE.md, Records and Changes.
 use Rattle.std.specs.Prelude.{◌≡◌, ◌≢◌, ℕ, Bool, ◌&&◌, ◌==◌, ◌↔◌, if◌then◌else◌, List, [], ◌∷◌, map, Some, None, Ok, Option, Result, is_some, IsSome, IsNone, IfSome, All, Contains, find, option_map, option_to_list, flat_map, ok_or}
 use Rattle.process.specs.declared.capabilities.Capabilities.{Capabilities}
 use Rattle.records.specs.declared.key.Key.{Key}

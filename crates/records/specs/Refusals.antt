@@ -1,4 +1,5 @@
 -- The numbers of a table's refusals.
+-- From docs/ANSWERS.md.
 use Rattle.std.specs.Prelude.{ℕ}
 use Rattle.records.specs.declared.records.NoFreePlace.{NoFreePlace}
 

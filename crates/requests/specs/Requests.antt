@@ -1,4 +1,5 @@
 -- A request: a command in a line of text, metadata in lines of bytes, and a flush.
+-- From gitattributes, long running filter process; what is refused, and by which number, is told in docs/PROTOCOL.md, A request.
 use Rattle.std.specs.Prelude.{◌≡◌, ◌↔◌, ℕ, ◌+◌, ◌<◌, ◌≤◌, true, cond, ◌⊎◌, List, [], ◌∷◌, ◌++◌, map, length, take, Some, None, Ok, Err, codes, Option, Result, nat_le}
 use Rattle.std.specs.Option.{option_map}
 use Rattle.packetline.specs.Packets.{Pkt, flush, delimiter, response_end, line, decode, over}

@@ -1,5 +1,6 @@
 -- What a request asks, and how it is stored: the command and each pair's key and value one behind the other over the front of a text area, and a row for
 -- each pair over the front of the rows.
+-- From docs/PROTOCOL.md, A request.
 use Rattle.std.specs.Prelude.{◌≡◌, ℕ, ◌+◌, ◌≤◌, Bool, true, false, ◌&&◌, List, [], ◌∷◌, ◌++◌, map, length, take, Some, None, Option, nat_le, nat_lt}
 use Rattle.slices.specs.Held.{rows_over}
 use Rattle.slices.specs.Parts.{part}

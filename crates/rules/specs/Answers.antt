@@ -1,4 +1,5 @@
 -- What the calls of a table answer.
+-- From docs/TABLE.md, What it comes to; the numbers are those of docs/ANSWERS.md.
 use Rattle.std.specs.Prelude.{ℕ, List, Some, None, Option}
 use Rattle.host.specs.declared.fault.LineFault.{LineFault}
 use Rattle.host.specs.Faults.{line_number}

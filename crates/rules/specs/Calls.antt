@@ -1,4 +1,5 @@
 -- The calls of a table, with all that a caller says in one, and what a host leaves free in it.
+-- From docs/TABLE.md, The calls.
 use Rattle.std.specs.Prelude.{ℕ, Bool, true, false, ◌&&◌, List, Option}
 use Rattle.std.specs.Option.{option_map_or}
 use Rattle.host.specs.Worlds.{Pipe}

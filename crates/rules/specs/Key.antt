@@ -1,5 +1,6 @@
 -- The key: which processes run after a list of a table's calls, told from what is seen of each call alone: with which process it talked, the bytes that
 -- it was given, and how the input ended. No answer is looked at, and neither is the table.
+-- From docs/RULES.md, The key.
 use Rattle.std.specs.Prelude.{◌≡◌, ℕ, ◌≤◌, Bool, true, false, cond, not, ◌&&◌, List, [], ◌∷◌, ◌++◌, length, Some, None, Option, filter, nat_le, ◌==◌}
 use Rattle.std.specs.Option.{option_map_or}
 use Rattle.std.specs.List.{list_any, count_by}

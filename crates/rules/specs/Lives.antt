@@ -1,4 +1,5 @@
 -- A table's life: the table over its host, and the stories of the host's processes, as somebody beside them writes them down.
+-- From docs/RULES.md, What is looked at.
 use Rattle.std.specs.Prelude.{◌≡◌, ℕ, Bool, true, false, cond, List, [], ◌∷◌, ◌++◌, None, replicate, ◌==◌}
 use Rattle.std.specs.List.{count_by}
 use Rattle.host.specs.Worlds.{Process, gone, live, World}

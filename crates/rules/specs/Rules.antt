@@ -1,4 +1,5 @@
 -- The three rules that stand in the whole life of a table.
+-- From docs/RULES.md, The rules.
 use Rattle.std.specs.Prelude.{◌≡◌, ℕ, ◌+◌, ◌*◌, ◌≤◌, Bool, false, List, ◌++◌, length, Some, None, Option, ◌==◌}
 use Rattle.std.specs.List.{All, count_by}
 use Rattle.packetline.specs.Packets.{flushes}

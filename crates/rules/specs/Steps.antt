@@ -1,4 +1,5 @@
 -- What a table over a host makes of each call: its answer, the table and the host's world after it, and what it did with the host.
+-- From docs/TABLE.md, The calls. What is said and heard is told by the definitions of `handshake` and `client`.
 use Rattle.std.specs.Prelude.{ℕ, suc, Bool, cond, not, ◌&&◌, List, [], ◌∷◌, ◌++◌, map, length, Some, None, Ok, Err, codes, Option, Result, is_none, nat_lt, unwrap_or, slice_set}
 use Rattle.std.specs.List.{list_any}
 use Rattle.packetline.specs.Packets.{Pkt, flush, line_pkt}

@@ -1,5 +1,6 @@
 -- What has passed with one process since it was started: its calls, the latest first, each with the events of its talk and with its answer. What the
 -- rules speak of is read off these alone: nothing here looks into a table.
+-- From docs/RULES.md, What is looked at and The words.
 use Rattle.std.specs.Prelude.{ℕ, zero, suc, ◌+◌, Bool, true, false, cond, not, ◌&&◌, ◌||◌, List, [], ◌∷◌, ◌++◌, Some, None, Ok, Err, codes, Option, Result, is_some}
 use Rattle.std.specs.Str.{bytes_eq}
 use Rattle.packetline.specs.Packets.{Pkt, flush, delimiter, response_end, line, packet, decode}

@@ -1,4 +1,5 @@
 -- What the hosts over another host mean.
+-- From docs/HOST.md, Hosts that are built.
 use Rattle.std.specs.Prelude.{false}
 use Rattle.host.specs.Worlds.{World}
 

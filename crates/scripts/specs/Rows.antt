@@ -1,4 +1,5 @@
 -- What the rows of a script mean: parts of one byte string, and processes that play them.
+-- From docs/HOST.md, Hosts that are built.
 use Rattle.std.specs.Prelude.{ℕ, ◌+◌, ◌-◌, Bool, false, ◌&&◌, List, [], ◌++◌, map, length, replicate, is_some, Some, None, Option, nat_le}
 use Rattle.std.specs.List.{list_all}
 use Rattle.std.specs.Str.{bytes_eq}

@@ -1,4 +1,5 @@
 -- What a script host means: each started process plays the bytes of its row.
+-- From docs/HOST.md, Hosts that are built.
 use Rattle.std.specs.Prelude.{◌≡◌, ℕ, List, map, take, is_some, Some, None, Ok, Err, Option, Result, slice_index_or, slice_set}
 use Rattle.slices.specs.declared.name.OutsideLimits.{OutsideLimits}
 use Rattle.host.specs.declared.fault.NotStarted.{NotStarted}

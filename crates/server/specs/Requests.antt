@@ -1,4 +1,5 @@
 -- A request's content, read payload by payload up to a flush.
+-- From gitattributes, long running filter process; docs/PROTOCOL.md, Answering a request.
 use Rattle.std.specs.Prelude.{◌≡◌, ℕ, List, [], ◌∷◌, take, Some, None, Ok, Err, Option, Result}
 use Rattle.std.specs.Option.{option_map}
 use Rattle.packetline.specs.Packets.{flush, line}

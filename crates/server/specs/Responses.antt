@@ -1,4 +1,5 @@
 -- A status that a server says.
+-- From gitattributes, long running filter process; docs/PROTOCOL.md, Answering a request.
 use Rattle.std.specs.Prelude.{◌≡◌, ℕ, Bool, true, cond, ◌&&◌, List, [], ◌∷◌, ◌++◌, length, Some, None, codes, Option, nat_le}
 use Rattle.packetline.specs.declared.encode.Error.{Error as Misuse}
 use Rattle.packetline.specs.declared.encode.Error.TheVariants.{AreaTooShort as Short, OutsideLimits}

@@ -1,4 +1,5 @@
 -- A writing: bytes in packets, and the flush that ends it.
+-- From gitattributes, long running filter process; docs/PROTOCOL.md, Answering a request.
 use Rattle.std.specs.Prelude.{◌≡◌, ℕ, List, [], ◌∷◌, ◌++◌, map, Ok, Err, Result}
 use Rattle.packetline.specs.Packets.{Pkt, flush, line, packets}
 use Rattle.host.specs.declared.call.AreaTooShort.{AreaTooShort}

@@ -1,4 +1,5 @@
 -- What a name may be.
+-- From docs/PROTOCOL.md, Names.
 use Rattle.std.specs.Prelude.{ℕ, ◌<◌, ◌≤◌, Bool, ◌&&◌, List, length, nat_le, slice_index}
 use Rattle.std.specs.List.{list_all}
 

@@ -1,4 +1,5 @@
 -- The worked cases, one table over the definitions.
+-- From docs/PROTOCOL.md, Worked cases.
 use Rattle.std.specs.Prelude.{◌≡◌, ℕ, true, false, List, length, take, Some, None, Err, codes}
 use Rattle.packetline.specs.Packets.{header, Pkt, line, framable, packet, line_pkt}
 use Rattle.packetline.specs.Text.{number_of}
