@@ -1,4 +1,4 @@
--- What a seat does.
+-- What a seat does: the memory of one process of a mirror, which is its server, what that said and was not received, and how many bytes it takes.
 use Rattle.std.specs.Prelude.{◌≡◌, ℕ, ◌-◌, ◌^◌, true, List, [], ◌++◌, length, take, drop, min, slice_index_or, slice_set}
 use Rattle.slices.specs.declared.name.Name.{Name}
 use Rattle.packetline.specs.Packets.{packets}

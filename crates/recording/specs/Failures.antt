@@ -1,4 +1,4 @@
--- Why something is not read.
+-- Why a line, its digits or a shown text is not read: it is refused, or memory is wanting.
 use Rattle.std.specs.Prelude.{ℕ, List, Some, codes, Option}
 use Rattle.recording.specs.declared.failure.Failure.{Failure}
 use Rattle.recording.specs.declared.failure.Failure.TheVariants.{Refused, OutOfMemory}

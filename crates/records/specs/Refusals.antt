@@ -1,4 +1,4 @@
--- The numbers of a table's refusals.
+-- The number of the refusal of a record for which no place is free; the other refusals of a table are numbered in driver, Answers.
 -- From docs/ANSWERS.md.
 use Rattle.std.specs.Prelude.{ℕ}
 use Rattle.records.specs.declared.records.NoFreePlace.{NoFreePlace}

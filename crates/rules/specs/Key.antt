@@ -1,5 +1,5 @@
 -- The key: which processes run after a list of a table's calls, told from what is seen of each call alone: with which process it talked, the bytes that
--- it was given, and how the input ended. No answer is looked at, and neither is the table.
+-- it was given, and the host's fault in which it ended, if it did. Nothing else of an answer is looked at, and nothing of the table.
 -- From docs/RULES.md, The key.
 use Rattle.std.specs.Prelude.{◌≡◌, ℕ, ◌≤◌, Bool, true, false, cond, not, ◌&&◌, List, [], ◌∷◌, ◌++◌, length, Some, None, Option, filter, nat_le, ◌==◌}
 use Rattle.std.specs.Option.{option_map_or}
