@@ -2,10 +2,9 @@
 ghost use Rattle.std.specs.Prelude.{◌≡◌, ◌≤◌, ℕ, List, length};
 ghost use Rattle.host.specs.Talk.{sight, areas};
 ghost use Rattle.process.specs.Given.{have_room};
-ghost use Rattle.rules.specs.Promises.{IsStep};
 ghost use Rattle.driver.specs.Answers.{init_answer, applied, fetched, paths_listed, piece_read, payload_length, done_or};
 ghost use Rattle.exchange.specs.Opens.{read_from, open_processes};
-ghost use Rattle.exchange.specs.Runs.{IsRun};
+ghost use Rattle.exchange.specs.Runs.{space, IsMade, IsRun};
 ghost use Rattle.exchange.specs.Values.{call_of, answer_in, answer_of, blanked};
 
 use crate::answer::Answer;
@@ -104,7 +103,7 @@ fn make<H: Host>(
     text: &mut [u8],
     call: Call<'_>,
 ) -> Answer
-    ensures step { IsStep H.capacity (call_of (length rows.old) (length text.old) call.entry) (have_room work.old status.old) table.old.records.places (sight (H.log host.old) (H.world host.old)) (areas work.old status.old) (answer_in work.new result) table.new.records.places (sight (H.log host.new) (H.world host.new)) (areas work.new status.new) }
+    ensures made { IsMade H.capacity (call_of (length rows.old) (length text.old) call.entry) (have_room work.old status.old) table.old.records.places (sight (H.log host.old) (H.world host.old)) (areas work.old status.old) (space rows.old text.old) (answer_in work.new result) table.new.records.places (sight (H.log host.new) (H.world host.new)) (areas work.new status.new) (space rows.new text.new) }
     ensures told { blanked (answer_in work.new result) ≡ answer_of result }
 {
     match call {
@@ -134,7 +133,7 @@ pub struct Left {
     pub open: OpenResults,
 }
 
-/// Works off the calls of an exchange, one behind the other, from an empty table. Each entry has its answer then, and the observer has looked at the host after each.
+/// Works off the calls of an exchange, one behind the other, from an empty table. Each entry has its answer then. The observer looks after each call, and nothing is promised of what it sees.
 pub fn run<H: Host, O: Observer<H>>(
     host: &mut H,
     work: &mut [u8],
@@ -144,7 +143,7 @@ pub fn run<H: Host, O: Observer<H>>(
     exchange: &mut [Entry<'_>],
     observer: &mut O,
 ) -> Left
-    ensures runs { IsRun H.capacity (length rows.old) (length text.old) exchange.old (sight (H.log host.old) (H.world host.old)) exchange.new result.table.records.places (sight (H.log host.new) (H.world host.new)) }
+    ensures runs { IsRun H.capacity (have_room work.old status.old) exchange.old (sight (H.log host.old) (H.world host.old)) (areas work.old status.old) (space rows.old text.old) exchange.new result.table.records.places (sight (H.log host.new) (H.world host.new)) (areas work.new status.new) (space rows.new text.new) }
     ensures open { open_processes result.open ≡ read_from result.table.records.places }
 {
     let mut table = State::new();

@@ -55,14 +55,16 @@ pub record IsStep (capacity : ℕ) (c : Call) (has_room : Bool) (table : List Pl
   pub grows : Grows w.log acts w'.log
   pub goes_on : (l : Life) → Begins l → (turns : List Turn) → (run capacity turns l).now ≡ state table w.world → GoesOn capacity l turns turn r table' w'.world
 
--- Calls were worked off on an empty table, one behind the other, and answered so: there are turns of exactly these calls with exactly these answers that
--- lead to exactly this table and this host, and their deeds are what the host's log, if it keeps one, has grown by. Where no process was open at the
--- beginning all of this stands there.
-pub record IsLife (capacity : ℕ) (calls : List Call) (w : Sight) (rs : List Answer) (table' : List Place) (w' : Sight) : Type 0 where
+-- Calls were worked off on an empty table, one behind the other, with areas that have room or have not, and answered so: there are turns of exactly these
+-- calls with exactly these answers that lead to exactly this table and this host, lay the areas as the overlay rule leaves them, and did what the host's
+-- log, if it keeps one, has grown by. Where no process was open at the beginning all of this stands there.
+pub record IsLife (capacity : ℕ) (calls : List Call) (has_room : Bool) (w : Sight) (a : Areas) (rs : List Answer) (table' : List Place) (w' : Sight) (a' : Areas) : Type 0 where
   pub turns : List Turn
   pub are : map (λ t. t.call) turns ≡ calls
+  pub rooms_are : map (λ t. t.has_room) turns ≡ map (λ _. has_room) calls
   pub answers : answers_of capacity turns (first_life w.world) ≡ rs
   pub reaches : (run capacity turns (first_life w.world)).now ≡ state table' w'.world
+  pub laid : a' ≡ lay (passes (deeds_of capacity turns (first_life w.world))) a
   pub acts : List Act
   pub done : Done (deeds_of capacity turns (first_life w.world)) acts
   pub grows : Grows w.log acts w'.log
