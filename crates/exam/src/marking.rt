@@ -22,6 +22,7 @@ use host::host::Host;
 use host::inner::MAX_LINE_LEN;
 use process::area::MAX_STATUS_LEN;
 use recording::line::Direction;
+use records::key::Key;
 use std::alloc::{AllocError, Global};
 use trace::traced::{Passed, Traced};
 
@@ -30,9 +31,10 @@ const ROWS: usize = 256;
 
 const ROOM: usize = 65_536;
 
-/// A process that was started: what passed, what its flushes are counted by, the call that started it, and the call that ended it.
+/// A process that was started: its key, what passed, what its flushes are counted by, the call that started it, and the call that ended it.
 #[derive(Drop)]
 pub(crate) struct Standing {
+    key: Option<Key>,
     pub(crate) listing: Listing,
     pub(crate) tally: Tally,
     pub(crate) started_by: usize,
@@ -54,6 +56,14 @@ struct Made<'a> {
     answer: Answer,
     sight: Sight,
     notes: &'a [Passed],
+}
+
+/// The key that an apply is for.
+fn key_of(call: Call<'_>) -> Option<Key> {
+    match call {
+        Call::Apply(key, _, _) => Some(key),
+        _ => None,
+    }
 }
 
 /// How the input ended in a call, if it did.
@@ -88,6 +98,7 @@ impl Marked {
         let before = self.standings.len();
         for _ in before..made.sight.started {
             self.standings.push(Standing {
+                key: key_of(made.call),
                 listing: Listing::new(heap),
                 tally: Tally::none(),
                 started_by: made.number,
@@ -122,12 +133,28 @@ impl Marked {
         Ok(lines)
     }
 
+    /// The process that runs for a key.
+    fn running(&self, key: Key) -> Option<usize> {
+        self.standings
+            .iter()
+            .position(|s| s.ended_by.is_none() && s.key == Some(key))
+    }
+
+    /// The process that a call talked with. One that is passed talks with its key's process, and says nothing.
+    fn talked_with(&self, made: Made<'_>) -> Option<usize> {
+        match (made.sight.process, made.answer) {
+            (None, Answer::Passed) => self.running(key_of(made.call)?),
+            (process, _) => process,
+        }
+    }
+
     /// Notes which processes a call ended, by the key.
     fn end(&mut self, made: Made<'_>, given: &[u8]) -> Result<(), AllocError> {
+        let process = self.talked_with(made);
         self.runners.after(
             made.call,
             Seen {
-                process: made.sight.process,
+                process,
                 given,
                 ended: ended(made.answer),
             },
