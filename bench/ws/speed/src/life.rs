@@ -120,7 +120,7 @@ impl Life {
             Asks::Handshakes => (1, greeting.len()),
             _ => (script.len(), answer.len()),
         };
-        // One more than is asked for: gix-filter's table starts its process at its first apply, before time is taken.
+        // One more than is asked for: gix-filter's client is answered once before time is taken.
         script.reserve_exact(answer.len() * (times + 1));
         for _ in 0..times + 1 {
             script.extend_from_slice(&answer);

@@ -37,11 +37,30 @@ impl Props {
             table: State::default(),
             paths: vec![],
         };
-        if let Asks::Applies { .. } = life.asks {
-            stage(&life.script);
-            apply(&mut props.table, &driver(), &life.content, areas).expect("a first apply");
-        }
+        props.begin(life, areas).expect("a first answer");
         props
+    }
+
+    /// Has the process answer once, so that what a client makes only once is there before time is taken.
+    fn begin(&mut self, life: &Life, areas: &mut Areas) -> Option<()> {
+        match life.asks {
+            Asks::Exchanges { joins, .. } => {
+                let mut client = greeted(&life.script, self.children.pop()?)?;
+                exchange(&mut client, &life.content, areas, joins)?;
+                self.clients.push(client);
+            }
+            Asks::Applies { .. } => {
+                stage(&life.script);
+                apply(&mut self.table, &driver(), &life.content, areas)?;
+            }
+            Asks::Listings { .. } => {
+                let mut client = greeted(&life.script, self.children.pop()?)?;
+                listed(&mut client)?;
+                self.clients.push(client);
+            }
+            Asks::Handshakes => {}
+        }
+        Some(())
     }
 
     /// Ends the processes.
@@ -130,13 +149,12 @@ fn listed(client: &mut Client) -> Option<Vec<BString>> {
 fn play(life: &Life, areas: &mut Areas, props: &mut Props) -> Option<usize> {
     match life.asks {
         Asks::Exchanges { joins, .. } => {
-            let mut client = greeted(&life.script, props.children.pop()?)?;
+            let client = props.clients.last_mut()?;
             for _ in 0..life.times {
-                if exchange(&mut client, &life.content, areas, joins)? != life.content.len() {
+                if exchange(client, &life.content, areas, joins)? != life.content.len() {
                     return None;
                 }
             }
-            props.clients.push(client);
         }
         Asks::Applies { .. } => {
             let driver = driver();
@@ -147,14 +165,13 @@ fn play(life: &Life, areas: &mut Areas, props: &mut Props) -> Option<usize> {
             }
         }
         Asks::Listings { paths } => {
-            let mut client = greeted(&life.script, props.children.pop()?)?;
+            let client = props.clients.last_mut()?;
             for _ in 0..life.times {
-                props.paths = listed(&mut client)?;
+                props.paths = listed(client)?;
                 if props.paths.len() != paths {
                     return None;
                 }
             }
-            props.clients.push(client);
         }
         Asks::Handshakes => {
             while let Some(child) = props.children.pop() {
