@@ -3,10 +3,11 @@ use recording::failure::Failure;
 use recording::line::NotHexadecimal;
 use recording::show::NotShown;
 use std::alloc::{AllocError, AllocFailed};
+use std::error::Error;
 use std::fmt;
 
 /// Why a line of a sheet is bad.
-#[derive(Clone, Copy)]
+#[derive(Clone, Copy, Debug)]
 pub(crate) enum Bad {
     Words,
     NoProcess,
@@ -45,6 +46,8 @@ impl fmt::Display for Bad {
         })
     }
 }
+
+impl Error for Bad {}
 
 impl From<AllocError> for Bad {
     fn from(_e: AllocError) -> Bad {

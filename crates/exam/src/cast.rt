@@ -1,6 +1,6 @@
 //! A sheet, read whole before anything is played.
 use crate::bad::Bad;
-use crate::sheet::{Call, Entry, What, read_entry};
+use crate::sheet::{Entry, What, read_entry};
 use crate::table_calls::TableCall;
 use host::fault::{Fault, Snag};
 use packetline::encode::line_to_area;
@@ -88,13 +88,6 @@ pub(crate) enum Scene {
     Mirror,
 }
 
-/// A line that is played, and what it says.
-#[derive(Drop)]
-pub(crate) struct Played<'a> {
-    pub(crate) line: &'a [u8],
-    pub(crate) call: Call<'a>,
-}
-
 /// A line that makes a table's call, and the call.
 #[derive(Drop)]
 pub(crate) struct Asked<'a> {
@@ -127,7 +120,8 @@ impl Exercise<'_> {
 #[derive(Drop)]
 pub(crate) struct Sheet<'a> {
     pub(crate) scene: Scene,
-    pub(crate) played: Vec<Played<'a>>,
+    // A flag: the calls stand in the lines, and are read there again as they are played, so that what they send is not kept beside the text.
+    is_played: bool,
     pub(crate) exercise: Exercise<'a>,
 }
 
@@ -135,7 +129,7 @@ impl<'a> Sheet<'a> {
     pub(crate) fn new(heap: Global) -> Sheet<'a> {
         Sheet {
             scene: Scene::Script(Cast::new(heap)),
-            played: Vec::new(heap),
+            is_played: false,
             exercise: Exercise {
                 asked: Vec::new(heap),
                 claim: None,
@@ -147,24 +141,24 @@ impl<'a> Sheet<'a> {
     fn is_begun(&self) -> bool {
         match &self.scene {
             Scene::Script(cast) => {
-                !cast.rows.is_empty() || !self.played.is_empty() || self.exercise.is_begun()
+                !cast.rows.is_empty() || self.is_played || self.exercise.is_begun()
             }
             Scene::Mirror => true,
         }
     }
 
     /// Takes a call that is no table's.
-    fn add_call(&mut self, line: &'a [u8], call: Call<'a>) -> Result<(), Bad> {
+    fn add_call(&mut self) -> Result<(), Bad> {
         if self.exercise.is_begun() {
             return Err(Bad::Mixed);
         }
-        self.played.push(Played { line, call })?;
+        self.is_played = true;
         Ok(())
     }
 
     /// Takes a table's call.
     fn add_table_call(&mut self, line: &'a [u8], call: TableCall) -> Result<(), Bad> {
-        if !self.played.is_empty() {
+        if self.is_played {
             return Err(Bad::Mixed);
         }
         self.exercise.asked.push(Asked { line, call })?;
@@ -173,7 +167,7 @@ impl<'a> Sheet<'a> {
 
     /// Takes a claim.
     fn add_claim(&mut self, line: &'a [u8], processes: Vec<usize>) -> Result<(), Bad> {
-        if !self.played.is_empty() {
+        if self.is_played {
             return Err(Bad::Mixed);
         }
         if self.exercise.claim.is_some() {
@@ -212,7 +206,7 @@ impl<'a> Sheet<'a> {
                 };
                 cast.give(&raw(heap, what)?)?;
             }
-            Entry::Call(call) => self.add_call(line, call)?,
+            Entry::Call(_call) => self.add_call()?,
             Entry::TableCall(call) => self.add_table_call(line, call)?,
             Entry::Claim(processes) => self.add_claim(line, processes)?,
         }

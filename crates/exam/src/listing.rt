@@ -7,7 +7,7 @@ use packetline::packet::PacketLineRef;
 use recording::line::Direction;
 use recording::show::Escaped;
 use slices::refusal::Numbered;
-use std::alloc::{AllocError, Global};
+use std::alloc::Global;
 use std::fmt;
 
 /// How many bytes of a payload or of a path are shown.
@@ -64,6 +64,96 @@ impl fmt::Display for Described<'_> {
     }
 }
 
+/// A packet that is whole, or four bytes that are no header, as a numbered line.
+#[derive(Clone, Copy)]
+pub(crate) struct PacketLine<'a> {
+    number: usize,
+    sign: &'static str,
+    header: &'a [u8],
+    packet: Result<PacketLineRef<'a>, decode::Error>,
+}
+
+impl fmt::Display for PacketLine<'_> {
+    fn fmt<W: fmt::Write>(&self, f: &mut fmt::Formatter<W>) -> fmt::Result {
+        let number = self.number;
+        let sign = self.sign;
+        let header = Escaped(self.header);
+        match self.packet {
+            Ok(packet) => {
+                let packet = Described(packet);
+                write!(f, "{number:>4} {sign} {header} {packet}")
+            }
+            Err(e) => {
+                let refusal = e.refusal_number();
+                write!(
+                    f,
+                    "{number:>4} {sign} {header} bad header, refusal {refusal}"
+                )
+            }
+        }
+    }
+}
+
+/// Who is told of packets, in order.
+pub(crate) trait Teller {
+    fn tell(&mut self, line: PacketLine<'_>) -> anyhow::Result<()>;
+}
+
+/// Lines stand one under the other.
+impl Teller for String {
+    fn tell(&mut self, line: PacketLine<'_>) -> anyhow::Result<()> {
+        writeln!(self, "{line}")?;
+        Ok(())
+    }
+}
+
+/// Nobody: packets are only counted.
+#[derive(Clone, Copy)]
+pub(crate) struct Nobody;
+
+impl Teller for Nobody {
+    fn tell(&mut self, _line: PacketLine<'_>) -> anyhow::Result<()> {
+        Ok(())
+    }
+}
+
+/// How many bytes of lines are kept before they are printed.
+const KEPT: usize = 65_536;
+
+/// A reader of standard output, where lines are printed many at a time.
+#[derive(Drop)]
+pub(crate) struct Printer<'a> {
+    rt: &'a HostRuntime,
+    lines: String,
+}
+
+impl<'a> Printer<'a> {
+    pub(crate) fn new(rt: &'a HostRuntime) -> Printer<'a> {
+        Printer {
+            rt,
+            lines: String::new(rt.alloc()),
+        }
+    }
+
+    /// Prints what is kept.
+    pub(crate) fn print(&mut self) -> anyhow::Result<()> {
+        let lines = self.lines.as_str();
+        print!(self.rt; "{lines}")?;
+        self.lines.clear();
+        Ok(())
+    }
+}
+
+impl Teller for Printer<'_> {
+    fn tell(&mut self, line: PacketLine<'_>) -> anyhow::Result<()> {
+        self.lines.tell(line)?;
+        if self.lines.len() < KEPT {
+            return Ok(());
+        }
+        self.print()
+    }
+}
+
 impl Flow {
     fn new(heap: Global) -> Flow {
         Flow {
@@ -73,13 +163,13 @@ impl Flow {
         }
     }
 
-    /// Reads each packet that is whole and was not read yet, adds its line, and answers the number of the last.
-    fn advance(
+    /// Reads each packet that is whole and was not read yet, tells of it, and answers the number of the last.
+    fn advance<T: Teller>(
         &mut self,
-        lines: &mut String,
-        sign: &str,
+        sign: &'static str,
         last: usize,
-    ) -> Result<usize, AllocError> {
+        teller: &mut T,
+    ) -> anyhow::Result<usize> {
         let mut number = last;
         if self.bad {
             return Ok(number);
@@ -91,20 +181,23 @@ impl Flow {
             match streaming(unread) {
                 Ok(Some(whole)) => {
                     number = number.saturating_add(1);
-                    let header = Escaped(&unread[0..4]);
-                    let packet = Described(whole.line);
-                    writeln!(lines, "{number:>4} {sign} {header} {packet}")?;
+                    teller.tell(PacketLine {
+                        number,
+                        sign,
+                        header: &unread[0..4],
+                        packet: Ok(whole.line),
+                    })?;
                     self.read = read + whole.bytes_consumed;
                 }
                 Ok(None) => break,
                 Err(e) => {
                     number = number.saturating_add(1);
-                    let header = Escaped(&unread[0..4]);
-                    let refusal = e.refusal_number();
-                    writeln!(
-                        lines,
-                        "{number:>4} {sign} {header} bad header, refusal {refusal}"
-                    )?;
+                    teller.tell(PacketLine {
+                        number,
+                        sign,
+                        header: &unread[0..4],
+                        packet: Err(e),
+                    })?;
                     self.bad = true;
                     break;
                 }
@@ -168,14 +261,13 @@ impl Listing {
         }
     }
 
-    /// Adds a record, and answers a line for each packet that it completes.
-    pub(crate) fn add(
+    /// Adds a record, and tells of each packet that it completes.
+    pub(crate) fn add<T: Teller>(
         &mut self,
-        heap: Global,
         direction: Direction,
         bytes: &[u8],
-    ) -> Result<String, AllocError> {
-        let mut lines = String::new(heap);
+        teller: &mut T,
+    ) -> anyhow::Result<()> {
         // No Display: Direction is recording's, where a sign is a byte of a line.
         let sign = match direction {
             Direction::Sent => ">",
@@ -184,8 +276,8 @@ impl Listing {
         let last = self.last;
         let flow = self.flow(direction);
         flow.bytes.extend_from_slice(bytes)?;
-        self.last = flow.advance(&mut lines, sign, last)?;
-        Ok(lines)
+        self.last = flow.advance(sign, last, teller)?;
+        Ok(())
     }
 
     /// A call begins: what it reads begins with a packet, whatever the calls before it left.

@@ -109,12 +109,7 @@ impl Marked {
     }
 
     /// The process that a call talked with, and the packets that passed.
-    fn talk(
-        &mut self,
-        heap: Global,
-        made: Made<'_>,
-        is_started: bool,
-    ) -> Result<String, AllocError> {
+    fn talk(&mut self, heap: Global, made: Made<'_>, is_started: bool) -> anyhow::Result<String> {
         let mut lines = String::new(heap);
         let Some(process) = made.sight.process else {
             return Ok(lines);
@@ -126,8 +121,9 @@ impl Marked {
         writeln!(lines, "  talks with process {process}{how}")?;
         standing.listing.begin_call();
         for note in made.notes {
-            let completed = standing.listing.add(heap, note.direction, &note.bytes)?;
-            lines.push_str(completed.as_str())?;
+            standing
+                .listing
+                .add(note.direction, &note.bytes, &mut lines)?;
         }
         standing.tally = standing.tally.after(made.call, made.answer);
         Ok(lines)
@@ -168,7 +164,7 @@ impl Marked {
     }
 
     /// Takes a call, and answers its packets and its answer in lines.
-    fn add(&mut self, heap: Global, made: Made<'_>) -> Result<String, AllocError> {
+    fn add(&mut self, heap: Global, made: Made<'_>) -> anyhow::Result<String> {
         let is_started = self.start(heap, made)?;
         let mut lines = self.talk(heap, made, is_started)?;
         let given = given_in(heap, made.notes)?;

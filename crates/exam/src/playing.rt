@@ -1,9 +1,9 @@
 //! A sheet played over a host.
-use crate::cast::{Exercise, Played, Scene, Sheet};
+use crate::cast::{Exercise, Scene, Sheet};
 use crate::listing::{Described, Listing};
 use crate::marking::mark;
 use crate::refusals::{Answer, Stopped, refused};
-use crate::sheet::{Call, PlainCall, What};
+use crate::sheet::{Call, PlainCall, What, is_played, read_played};
 use crate::stage::Stage;
 use anyhow::bail;
 use host::host::{Host, How};
@@ -94,20 +94,17 @@ fn print_answer(rt: &HostRuntime, answer: Answer) -> anyhow::Result<()> {
 }
 
 /// Plays one line of a sheet: under a client's call stand the packets that passed, and under any call its answer.
-fn play_line<H: Host>(
-    rt: &HostRuntime,
-    stage: &mut Stage<H>,
-    played: Played<'_>,
-) -> anyhow::Result<()> {
-    print_line(rt, played.line)?;
-    match played.call {
+fn play_line<H: Host>(rt: &HostRuntime, stage: &mut Stage<H>, line: &[u8]) -> anyhow::Result<()> {
+    let call = read_played(rt.alloc(), line)?;
+    print_line(rt, line)?;
+    match call {
         Call::With(pair) => {
             stage.pairs.push(pair)?;
             Ok(())
         }
         Call::Plain(call) => {
             let answer = stage.make(call);
-            let _counted = stage.pass()?;
+            stage.count()?;
             print_answer(rt, answer)
         }
         Call::Client(process, call) => {
@@ -136,20 +133,20 @@ fn print_open(rt: &HostRuntime, started: &[Option<Listing>]) -> anyhow::Result<(
 fn play_over<H: Host + Drop>(
     rt: &HostRuntime,
     host: H,
-    played: Vec<Played<'_>>,
+    lines: &[&[u8]],
     exercise: &Exercise<'_>,
 ) -> anyhow::Result<()> {
     if exercise.is_begun() {
         return mark(rt, host, exercise);
     }
     let mut stage = Stage::new(rt.alloc(), host)?;
-    for line in played {
+    for line in lines.iter().filter(|line| is_played(line)) {
         play_line(rt, &mut stage, line)?;
     }
     print_open(rt, &stage.started)
 }
 
-/// Reads a sheet, then plays it. A bad line is told before anything is played.
+/// Reads a sheet, then plays its lines. A bad line is told before anything is played.
 pub(crate) fn play(rt: &HostRuntime, lines: &[&[u8]]) -> anyhow::Result<()> {
     let mut sheet = Sheet::new(rt.alloc());
     for (i, line) in lines.iter().enumerate() {
@@ -161,16 +158,16 @@ pub(crate) fn play(rt: &HostRuntime, lines: &[&[u8]]) -> anyhow::Result<()> {
     }
     let Sheet {
         scene,
-        played,
         exercise,
+        ..
     } = sheet;
     match scene {
         Scene::Script(cast) => {
             let Ok(script) = Script::new(&cast.bytes, &cast.rows) else {
                 bail!("a sheet has at most 16 processes");
             };
-            play_over(rt, script, played, &exercise)
+            play_over(rt, script, lines, &exercise)
         }
-        Scene::Mirror => play_over(rt, Mirror::new(), played, &exercise),
+        Scene::Mirror => play_over(rt, Mirror::new(), lines, &exercise),
     }
 }

@@ -264,20 +264,36 @@ fn read_call<'a>(heap: Global, word: &[u8], rest: &'a [u8]) -> Result<Call<'a>, 
     }
 }
 
+/// Whether a line says something.
+fn is_said(line: &[u8]) -> bool {
+    !matches!(line.first(), None | Some(b'#'))
+}
+
+/// Whether a line of a sheet that makes no table's calls is played: it says something, and tells of no process.
+pub(crate) fn is_played(line: &[u8]) -> bool {
+    is_said(line) && !matches!(first_word(line).0, b"mirror" | b"process" | b"gives")
+}
+
+/// The call of a line that is played.
+pub(crate) fn read_played(heap: Global, line: &[u8]) -> Result<Call<'_>, Bad> {
+    let (word, rest) = first_word(line);
+    read_call(heap, word, rest)
+}
+
 /// What a line says, if it says anything.
 pub(crate) fn read_entry(heap: Global, line: &[u8]) -> Result<Option<Entry<'_>>, Bad> {
-    if matches!(line.first(), None | Some(b'#')) {
+    if !is_said(line) {
         return Ok(None);
     }
     let (word, rest) = first_word(line);
-    if let Some(call) = read_table_call(heap, word, rest)? {
-        return Ok(Some(Entry::TableCall(call)));
-    }
     let entry = match word {
         b"mirror" if rest.is_empty() => Entry::Mirror,
         b"process" => process(rest)?,
         b"gives" => Entry::Gives(read_what(heap, rest)?),
         b"claim" => Entry::Claim(read_claim(heap, rest)?),
+        b"apply" | b"fetch" | b"paths" | b"take" | b"give-up" | b"close-all" => {
+            Entry::TableCall(read_table_call(heap, word, rest)?)
+        }
         _ => Entry::Call(read_call(heap, word, rest)?),
     };
     Ok(Some(entry))

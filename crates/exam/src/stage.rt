@@ -1,5 +1,5 @@
 //! What a sheet is played on.
-use crate::listing::Listing;
+use crate::listing::{Listing, Nobody, Teller};
 use crate::refusals::Stopped;
 use crate::sheet::Pair;
 use anyhow::Context;
@@ -36,19 +36,29 @@ impl<H: Drop> Stage<H> {
 }
 
 impl<H> Stage<H> {
-    /// Adds what passed to the packets of its process, and answers the lines of those that it completes.
-    pub(crate) fn pass(&mut self) -> anyhow::Result<String> {
-        let mut lines = String::new(self.heap);
+    /// Adds what passed to the packets of its process, and tells of those that it completes.
+    fn tell<T: Teller>(&mut self, teller: &mut T) -> anyhow::Result<()> {
         let passed = self
             .host
             .take()
             .context("there is no memory for what passed")?;
         for note in &passed {
             if let Some(Some(listing)) = self.started.get_mut(note.process) {
-                let completed = listing.add(self.heap, note.direction, &note.bytes)?;
-                lines.push_str(completed.as_str())?;
+                listing.add(note.direction, &note.bytes, teller)?;
             }
         }
+        Ok(())
+    }
+
+    /// The lines of the packets that passed.
+    pub(crate) fn pass(&mut self) -> anyhow::Result<String> {
+        let mut lines = String::new(self.heap);
+        self.tell(&mut lines)?;
         Ok(lines)
+    }
+
+    /// Counts the packets that passed.
+    pub(crate) fn count(&mut self) -> anyhow::Result<()> {
+        self.tell(&mut Nobody)
     }
 }

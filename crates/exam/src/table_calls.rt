@@ -207,21 +207,16 @@ fn fetch(heap: Global, text: &[u8]) -> Result<TableCall, Bad> {
 }
 
 /// A table's call, by its first word and the part behind it, if the word begins one.
-pub(crate) fn read_table_call(
-    heap: Global,
-    word: &[u8],
-    rest: &[u8],
-) -> Result<Option<TableCall>, Bad> {
-    let call = match word {
-        b"apply" => apply(heap, rest)?,
-        b"fetch" => fetch(heap, rest)?,
-        b"paths" => TableCall::Paths(whole_key(rest)?),
-        b"take" => TableCall::Take(whole_number(rest)?),
-        b"give-up" => TableCall::GiveUp(whole_number(rest)?),
-        b"close-all" if rest.is_empty() => TableCall::CloseAll,
-        _ => return Ok(None),
-    };
-    Ok(Some(call))
+pub(crate) fn read_table_call(heap: Global, word: &[u8], rest: &[u8]) -> Result<TableCall, Bad> {
+    match word {
+        b"apply" => apply(heap, rest),
+        b"fetch" => fetch(heap, rest),
+        b"paths" => Ok(TableCall::Paths(whole_key(rest)?)),
+        b"take" => Ok(TableCall::Take(whole_number(rest)?)),
+        b"give-up" => Ok(TableCall::GiveUp(whole_number(rest)?)),
+        b"close-all" if rest.is_empty() => Ok(TableCall::CloseAll),
+        _ => Err(Bad::Words),
+    }
 }
 
 /// The processes that are claimed to run: numbers parted by blanks, or `none`.
