@@ -1,3 +1,5 @@
 pub mod Apart
 pub mod Hexadecimal
 pub mod Behind
+pub mod Laying
+pub mod Ascii

@@ -1,6 +1,7 @@
 //! Bytes shown to a person, each so that it can be told from every other.
-ghost use Rattle.std.specs.Prelude.{◌≡◌, ◌/◌, ◌%◌, ◌<◌, [], ◌∷◌, ◌++◌, IfOk, string_bytes, slice_index, Some};
-ghost use Rattle.packetline.specs.Packets.{hex_char};
+ghost use Rattle.std.specs.Prelude.{◌≡◌, ◌*◌, ◌/◌, ◌%◌, ◌<◌, ◌≤◌, [], ◌∷◌, ◌++◌, IfOk, length, string_bytes, slice_index, Some};
+ghost use Rattle.std.specs.Str.{IsUtf8};
+ghost use Rattle.packetline.specs.Packets.{hex_char, over};
 ghost use Rattle.recording.specs.Shown.{shown, escaped, Unambiguous, ReadBack, Behind, digit_value, lead};
 
 use crate::failure::Failure;
@@ -14,27 +15,50 @@ use std::fmt;
 #[derive(Clone, Copy, PartialEq, Eq, Debug)]
 pub struct NotShown;
 
-/// A byte as it is shown.
-#[derive(Clone, Copy)]
-struct Shown(u8);
+/// How many bytes are shown at a time, in an area on the stack.
+const PART: usize = 256;
 
-impl fmt::Display for Shown {
-    ghost output = { λ b. Some (shown b.0) };
+/// `bytes` over the front of `area`, and their number.
+fn lay(bytes: &[u8], area: &mut [u8]) -> usize
+    requires { length bytes.now ≤ length area.old }
+    ensures value { area.new ≡ over bytes.now area.old }
+    ensures len { result ≡ length bytes.now }
+{
+    area[..bytes.len()].copy_from_slice(bytes);
+    bytes.len()
+}
 
-    fn fmt<W: fmt::Write>(&self, f: &mut fmt::Formatter<W>) -> fmt::Result {
-        let b = self.0;
-        match b {
-            b'\n' => f.write_str("\\n"),
-            b'"' => f.write_str("\\\""),
-            b'\\' => f.write_str("\\\\"),
-            b' '..=b'~' => f.write_char(b as char),
-            _ => {
-                f.write_str("\\x")?;
-                f.write_char(hex_char(usize::from(b / 16)) as char)?;
-                f.write_char(hex_char(usize::from(b % 16)) as char)
-            }
+/// A byte as it is shown over the front of `area`, and its length there.
+fn lay_shown(b: u8, area: &mut [u8]) -> usize
+    requires { 4 ≤ length area.old }
+    ensures value { area.new ≡ over (shown b) area.old }
+    ensures len { result ≡ length (shown b) }
+{
+    match b {
+        b'\n' => lay(b"\\n", area),
+        b'"' => lay(b"\\\"", area),
+        b'\\' => lay(b"\\\\", area),
+        b' '..=b'~' => lay(&[b], area),
+        _ => {
+            let high = hex_char(usize::from(b / 16));
+            let low = hex_char(usize::from(b % 16));
+            lay(&[b'\\', b'x', high, low], area)
         }
     }
+}
+
+/// `bytes` as they are shown over the front of `area`, and their length there.
+fn lay_escaped(bytes: &[u8], area: &mut [u8]) -> usize
+    requires { 4 * length bytes.now ≤ length area.old }
+    ensures value { area.new ≡ over (escaped bytes.now) area.old }
+    ensures len { result ≡ length (escaped bytes.now) }
+    ensures text { IsUtf8 (escaped bytes.now) }
+{
+    let mut n = 0;
+    for b in bytes {
+        n += lay_shown(*b, &mut area[n..]);
+    }
+    n
 }
 
 /// Bytes that print as a text: printable ASCII as it is, the rest behind a backslash.
@@ -45,8 +69,10 @@ impl fmt::Display for Escaped<'_> {
     ghost output = { λ bytes. Some (escaped bytes.0.now) };
 
     fn fmt<W: fmt::Write>(&self, f: &mut fmt::Formatter<W>) -> fmt::Result {
-        for b in self.0 {
-            write!(f, "{}", Shown(*b))?;
+        for part in self.0.chunks(PART) {
+            let mut area = [0; 4 * PART];
+            let n = lay_escaped(part, &mut area);
+            f.write_str(str::from_utf8(&area[..n]).unwrap())?;
         }
         Ok(())
     }
