@@ -120,7 +120,7 @@ impl Teller for Nobody {
 /// How many bytes of lines are kept before they are printed.
 const KEPT: usize = 65_536;
 
-/// A reader of standard output, where lines are printed many at a time.
+/// Standard output, to which lines go many at a time.
 #[derive(Drop)]
 pub(crate) struct Printer<'a> {
     rt: &'a HostRuntime,

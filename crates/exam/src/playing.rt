@@ -1,6 +1,6 @@
 //! A sheet played over a host.
 use crate::cast::{Exercise, Scene, Sheet};
-use crate::listing::{Described, Listing};
+use crate::listing::{Described, Listing, Printer};
 use crate::marking::mark;
 use crate::refusals::{Answer, Stopped, refused};
 use crate::sheet::{Call, PlainCall, What, is_played, read_played};
@@ -109,8 +109,9 @@ fn play_line<H: Host>(rt: &HostRuntime, stage: &mut Stage<H>, line: &[u8]) -> an
         }
         Call::Client(process, call) => {
             let answer = stage.ask(process, call);
-            let lines = stage.pass()?;
-            print!(rt; "{lines}")?;
+            let mut printer = Printer::new(rt);
+            stage.tell(&mut printer)?;
+            printer.print()?;
             print_answer(rt, answer)
         }
     }

@@ -269,7 +269,7 @@ fn is_said(line: &[u8]) -> bool {
     !matches!(line.first(), None | Some(b'#'))
 }
 
-/// Whether a line of a sheet that makes no table's calls is played: it says something, and tells of no process.
+/// Whether a line of a sheet that makes no table's calls is played: it says something, and tells of no process and no mirror.
 pub(crate) fn is_played(line: &[u8]) -> bool {
     is_said(line) && !matches!(first_word(line).0, b"mirror" | b"process" | b"gives")
 }

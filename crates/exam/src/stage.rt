@@ -37,7 +37,7 @@ impl<H: Drop> Stage<H> {
 
 impl<H> Stage<H> {
     /// Adds what passed to the packets of its process, and tells of those that it completes.
-    fn tell<T: Teller>(&mut self, teller: &mut T) -> anyhow::Result<()> {
+    pub(crate) fn tell<T: Teller>(&mut self, teller: &mut T) -> anyhow::Result<()> {
         let passed = self
             .host
             .take()
@@ -48,13 +48,6 @@ impl<H> Stage<H> {
             }
         }
         Ok(())
-    }
-
-    /// The lines of the packets that passed.
-    pub(crate) fn pass(&mut self) -> anyhow::Result<String> {
-        let mut lines = String::new(self.heap);
-        self.tell(&mut lines)?;
-        Ok(lines)
     }
 
     /// Counts the packets that passed.

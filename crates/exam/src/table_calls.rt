@@ -206,7 +206,7 @@ fn fetch(heap: Global, text: &[u8]) -> Result<TableCall, Bad> {
     Ok(TableCall::Fetch(key, operation, path))
 }
 
-/// A table's call, by its first word and the part behind it, if the word begins one.
+/// A table's call, by its first word, which begins one, and the part behind it.
 pub(crate) fn read_table_call(heap: Global, word: &[u8], rest: &[u8]) -> Result<TableCall, Bad> {
     match word {
         b"apply" => apply(heap, rest),
