@@ -95,24 +95,24 @@ impl fmt::Display for PacketLine<'_> {
 }
 
 /// Who is told of packets, in order.
-pub(crate) trait Teller {
-    fn tell(&mut self, line: PacketLine<'_>) -> anyhow::Result<()>;
+pub(crate) trait Listener {
+    fn hear(&mut self, line: PacketLine<'_>) -> anyhow::Result<()>;
 }
 
 /// Lines stand one under the other.
-impl Teller for String {
-    fn tell(&mut self, line: PacketLine<'_>) -> anyhow::Result<()> {
+impl Listener for String {
+    fn hear(&mut self, line: PacketLine<'_>) -> anyhow::Result<()> {
         writeln!(self, "{line}")?;
         Ok(())
     }
 }
 
-/// Nobody: packets are only counted.
+/// Nobody listens: packets are only counted.
 #[derive(Clone, Copy)]
 pub(crate) struct Nobody;
 
-impl Teller for Nobody {
-    fn tell(&mut self, _line: PacketLine<'_>) -> anyhow::Result<()> {
+impl Listener for Nobody {
+    fn hear(&mut self, _line: PacketLine<'_>) -> anyhow::Result<()> {
         Ok(())
     }
 }
@@ -144,9 +144,9 @@ impl<'a> Printer<'a> {
     }
 }
 
-impl Teller for Printer<'_> {
-    fn tell(&mut self, line: PacketLine<'_>) -> anyhow::Result<()> {
-        self.lines.tell(line)?;
+impl Listener for Printer<'_> {
+    fn hear(&mut self, line: PacketLine<'_>) -> anyhow::Result<()> {
+        self.lines.hear(line)?;
         if self.lines.len() < KEPT {
             return Ok(());
         }
@@ -164,11 +164,11 @@ impl Flow {
     }
 
     /// Reads each packet that is whole and was not read yet, tells of it, and answers the number of the last.
-    fn advance<T: Teller>(
+    fn advance<T: Listener>(
         &mut self,
         sign: &'static str,
         last: usize,
-        teller: &mut T,
+        listener: &mut T,
     ) -> anyhow::Result<usize> {
         let mut number = last;
         if self.bad {
@@ -181,7 +181,7 @@ impl Flow {
             match streaming(unread) {
                 Ok(Some(whole)) => {
                     number = number.saturating_add(1);
-                    teller.tell(PacketLine {
+                    listener.hear(PacketLine {
                         number,
                         sign,
                         header: &unread[0..4],
@@ -192,7 +192,7 @@ impl Flow {
                 Ok(None) => break,
                 Err(e) => {
                     number = number.saturating_add(1);
-                    teller.tell(PacketLine {
+                    listener.hear(PacketLine {
                         number,
                         sign,
                         header: &unread[0..4],
@@ -262,11 +262,11 @@ impl Listing {
     }
 
     /// Adds a record, and tells of each packet that it completes.
-    pub(crate) fn add<T: Teller>(
+    pub(crate) fn add<T: Listener>(
         &mut self,
         direction: Direction,
         bytes: &[u8],
-        teller: &mut T,
+        listener: &mut T,
     ) -> anyhow::Result<()> {
         // No Display: Direction is recording's, where a sign is a byte of a line.
         let sign = match direction {
@@ -276,7 +276,7 @@ impl Listing {
         let last = self.last;
         let flow = self.flow(direction);
         flow.bytes.extend_from_slice(bytes)?;
-        self.last = flow.advance(sign, last, teller)?;
+        self.last = flow.advance(sign, last, listener)?;
         Ok(())
     }
 

@@ -10,7 +10,7 @@ use host::host::{Host, How};
 use host::reading::read;
 use host::sending::{send_flush, send_line};
 use mirror::mirror::Mirror;
-use recording::show::Escaped;
+use recording::show::{Escaped, escape};
 use scripts::script::Script;
 
 impl<H: Host> Stage<H> {
@@ -47,7 +47,7 @@ impl<H: Host> Stage<H> {
             .host
             .receive(process, &mut self.work[0..most])
             .map_err(refused)?;
-        let bytes = Escaped(&self.work[0..n.min(self.work.len())]);
+        let bytes = escape(self.heap, &self.work[0..n.min(self.work.len())])?;
         Ok(format!(in self.heap; "bytes \"{bytes}\"")?)
     }
 

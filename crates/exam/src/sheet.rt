@@ -1,7 +1,7 @@
 //! The lines of a sheet: processes, what they give, and calls.
 use crate::bad::Bad;
 use crate::lines::items;
-use crate::table_calls::{TableCall, read_claim, read_table_call};
+use crate::table_calls::{TableCall, is_table_word, read_claim, read_table_call};
 use host::fault::{Fault, Snag};
 use host::host::How;
 use packetline::encode::MAX_DATA_LEN;
@@ -291,9 +291,7 @@ pub(crate) fn read_entry(heap: Global, line: &[u8]) -> Result<Option<Entry<'_>>,
         b"process" => process(rest)?,
         b"gives" => Entry::Gives(read_what(heap, rest)?),
         b"claim" => Entry::Claim(read_claim(heap, rest)?),
-        b"apply" | b"fetch" | b"paths" | b"take" | b"give-up" | b"close-all" => {
-            Entry::TableCall(read_table_call(heap, word, rest)?)
-        }
+        _ if is_table_word(word) => Entry::TableCall(read_table_call(heap, word, rest)?),
         _ => Entry::Call(read_call(heap, word, rest)?),
     };
     Ok(Some(entry))

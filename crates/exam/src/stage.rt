@@ -1,5 +1,5 @@
 //! What a sheet is played on.
-use crate::listing::{Listing, Nobody, Teller};
+use crate::listing::{Listener, Listing, Nobody};
 use crate::refusals::Stopped;
 use crate::sheet::Pair;
 use anyhow::Context;
@@ -37,14 +37,14 @@ impl<H: Drop> Stage<H> {
 
 impl<H> Stage<H> {
     /// Adds what passed to the packets of its process, and tells of those that it completes.
-    pub(crate) fn tell<T: Teller>(&mut self, teller: &mut T) -> anyhow::Result<()> {
+    pub(crate) fn tell<T: Listener>(&mut self, listener: &mut T) -> anyhow::Result<()> {
         let passed = self
             .host
             .take()
             .context("there is no memory for what passed")?;
         for note in &passed {
             if let Some(Some(listing)) = self.started.get_mut(note.process) {
-                listing.add(note.direction, &note.bytes, teller)?;
+                listing.add(note.direction, &note.bytes, listener)?;
             }
         }
         Ok(())

@@ -206,6 +206,14 @@ fn fetch(heap: Global, text: &[u8]) -> Result<TableCall, Bad> {
     Ok(TableCall::Fetch(key, operation, path))
 }
 
+/// Whether a word begins a table's call.
+pub(crate) fn is_table_word(word: &[u8]) -> bool {
+    matches!(
+        word,
+        b"apply" | b"fetch" | b"paths" | b"take" | b"give-up" | b"close-all"
+    )
+}
+
 /// A table's call, by its first word, which begins one, and the part behind it.
 pub(crate) fn read_table_call(heap: Global, word: &[u8], rest: &[u8]) -> Result<TableCall, Bad> {
     match word {
